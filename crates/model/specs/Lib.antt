@@ -1,0 +1,12 @@
+pub mod Maps
+pub mod Lists
+pub mod Book
+pub mod Rules
+pub mod Limits
+pub mod Commands
+pub mod Questions
+pub mod PlainBook
+pub mod PartsList
+pub mod Queries
+pub mod Teaching
+pub mod Answers

@@ -1,0 +1,30 @@
+#!/usr/bin/env bash
+# Each name in docs/CLAIMS.md stands in the file that its row gives, and each must-fail edit named there exists.
+set -euo pipefail
+cd "$(dirname "$0")/.."
+passed=0
+failed=0
+check() {
+    if "$@"; then
+        passed=$((passed + 1))
+    else
+        failed=$((failed + 1))
+        echo "not found: ${*: -2}"
+    fi
+}
+# rows `| what | names | file |`; the names and the file stand in back quotes
+while IFS='|' read -r _ _ names file _; do
+    [[ $file =~ \`(crates/[^\`]+)\` ]] || continue
+    path=${BASH_REMATCH[1]}
+    rest=$names
+    while [[ $rest =~ \`([^\`]+)\`(.*) ]]; do
+        name=${BASH_REMATCH[1]}
+        rest=${BASH_REMATCH[2]}
+        check grep -qF -- "$name" "$path"
+    done
+done < docs/CLAIMS.md
+for edit in $(grep -o 'crates/[a-z_]*/must-fail/[a-z_0-9]*\.edit' docs/CLAIMS.md | sort -u); do
+    check test -f "$edit"
+done
+echo "$passed passed, $failed failed"
+[ "$failed" -eq 0 ]

@@ -3,7 +3,8 @@ use mathlib.Core.Bool.{Bool, Bool·beq, false, not, true}
 use mathlib.Core.Logic.{inl, inr}
 use mathlib.Core.Path.{_∙_, _≡_, ap, ap₂, fun-ext, refl, sym}
 use Prim.Native.Nat.{_%_, _*_, _+_, _-_, _/_, _<_, _^_, _≤_, max, min, suc, zero, ℕ}
-use native.Mathlib.Nat.{div-add-mod', div-eq-of-lt, div-one, lt-of-le-of-lt, lt-of-lt-of-le, mod-lt, zero-div, zero-lt-suc}
+use native.Mathlib.Nat.{div-add-mod', div-eq-of-lt, div-one, lt-of-le-of-lt, lt-of-lt-of-le, mod-eq-of-lt, mod-lt, zero-div}
+use native.Mathlib.Nat.{zero-lt-suc}
 use native.Mathlib.Numerals.{add-one, one-add}
 use native.Mathlib.Omega.{arith}
 use lib.Arith.{digits-mod, lt-one}
@@ -13,10 +14,10 @@ use lib.Count.{ones, ones-step}
 use lib.Dec.{eqb, eqb·suc-suc, eqb·suc-zero, eqb·zero-suc, lit<}
 use lib.Pow.{field, mod-mod-pow, pow-mono, pow-pos, shl-exact, shr-lt, shr-shr}
 use borrow.Author.Tests.{eq-eqb, eqb-true}
-use Rattle.sets.specs.Sets.{Set, below, bit, disjoint, meet, subset, union, with, without}
+use Rattle.sets.specs.Sets.{Set, below, bit, disjoint, meet, minus, subset, union, with, without}
 use Rattle.sets.specs.TestLaws.{<?-no, <?-out, all-in, all-no, all-out, all-width, and-absorb, and-false, and-in, and-l}
-use Rattle.sets.specs.TestLaws.{and-no, and-r, and-true, any-in, any-out, bool?, clash, fails, iff→≡, imp-in, imp-no, imp-out}
-use Rattle.sets.specs.TestLaws.{not-in, not-no, not-out, or-swap}
+use Rattle.sets.specs.TestLaws.{and-no, and-r, and-swap, and-true, any-in, any-out, bool?, clash, fails, iff→≡, imp-in}
+use Rattle.sets.specs.TestLaws.{imp-no, imp-out, not-in, not-no, not-out, or-swap}
 use Rattle.sets.specs.Tests.{_&_, _<?_, _==_, _or_, count, one-if, ~_}
 
 two-pos : 0 < 2
@@ -139,6 +140,22 @@ bit-mod k s = fun-ext (λ f. elim (bool? (f <? k)) [
   | inr t ↦ bit-high k (s % 2 ^ k) f (mod-lt s (pow-pos k)) (<?-no f k t) ∙ sym (and-false _ _ t)
 ])
 
+-- The set that a number below 2 ^ k stands for has no number from k on.
+pub bit-below : (k s : ℕ) → s < 2 ^ k → bit s ≡ below k (bit s)
+bit-below k s h = ap bit (sym (mod-eq-of-lt h)) ∙ bit-mod k s
+
+or-xor : (p q : Bool) → not (Bool·beq (p or q) q) ≡ (p & ~ q)
+unfolding _or_ _&_ ~_
+or-xor true true = refl
+or-xor true false = refl
+or-xor false true = refl
+or-xor false false = refl
+
+pub bit-minus : (a b : ℕ) → bit (bitXor (bitOr a b) b) ≡ minus (bit a) (bit b)
+unfolding minus union
+bit-minus a b = fun-ext (λ f.
+    bit-xor (bitOr a b) b f ∙ ap (λ (x : Bool). not (Bool·beq x (bit b f))) (ap (λ (s : Set). s f) (bit-or a b)) ∙ or-xor (bit a f) (bit b f))
+
 -- ---- tests of two sets, by one operation on their numbers
 
 module _ (k a b : ℕ) (ha : a < 2 ^ k) where
@@ -192,17 +209,10 @@ pub bit-with : (s f : ℕ) → f < 64 → bit (bitOr s (1 * 2 ^ f % 2 ^ 64)) ≡
 unfolding with
 bit-with s f l = bit-or s _ ∙ unfold union in fun-ext (λ g. or-swap _ _ ∙ ap (λ (x : Bool). x or bit s g) (bit-one f g l))
 
-or-xor : (p q : Bool) → not (Bool·beq (p or q) p) ≡ (~ p & q)
-unfolding _or_ _&_ ~_
-or-xor true true = refl
-or-xor true false = refl
-or-xor false true = refl
-or-xor false false = refl
-
 pub bit-without : (s f : ℕ) → f < 64 → bit (bitXor (bitOr s (1 * 2 ^ f % 2 ^ 64)) (1 * 2 ^ f % 2 ^ 64)) ≡ without (bit s) f
 unfolding without with
 bit-without s f l = fun-ext (λ g.
-    bit-xor _ _ g ∙ ap₂ (λ (x y : Bool). not (Bool·beq x y)) (ap (λ (a : Set). a g) (bit-with s f l)) (bit-one f g l) ∙ or-xor (g == f) (bit s g))
+    bit-xor _ _ g ∙ ap₂ (λ (x y : Bool). not (Bool·beq x y)) (ap (λ (a : Set). a g) (bit-with s f l)) (bit-one f g l) ∙ ap (λ (x : Bool). not (Bool·beq x (g == f))) (or-swap _ _) ∙ or-xor (bit s g) (g == f) ∙ and-swap _ _)
 
 -- ---- the language's count of a number's ones
 
@@ -236,3 +246,7 @@ ones-count (suc k) n h =
     let high : n / 2 < 2 ^ k = shr-lt k 1 (rw (← add-one k) at h) in
     ones-step n ∙ digit-count (n % 2) (ones (n / 2)) (mod-lt n two-pos)
     ∙ ap₂ one-if (zero-digit n) (ones-count k (n / 2) high ∙ ap (count k) (fun-ext (λ i. sym (bit-suc n i)))) ∙ sym (count-shift k (bit n))
+
+-- A number in the set of a number below 2 ^ k is below k.
+pub bit-limit : (k s f : ℕ) → s < 2 ^ k → bit s f ≡ true → f < k
+bit-limit k s f h t = elim (bool? (f <? k)) [ inl y ↦ <?-out _ _ y | inr z ↦ clash t (bit-high k s f h (<?-no _ _ z)) ]

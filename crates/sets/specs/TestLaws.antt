@@ -53,6 +53,13 @@ pub and-false : (a b : Bool) → a ≡ false → (a & b) ≡ false
 unfolding _&_
 and-false a b t = rw t refl
 
+pub and-swap : (a b : Bool) → (a & b) ≡ (b & a)
+unfolding _&_
+and-swap true true = refl
+and-swap true false = refl
+and-swap false true = refl
+and-swap false false = refl
+
 -- the second follows from the first
 pub and-absorb : (a b : Bool) → (a ≡ true → b ≡ true) → (a & b) ≡ a
 unfolding _&_

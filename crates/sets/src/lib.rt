@@ -43,6 +43,20 @@ pub fn below_32(s: u64) -> u64
     s % 4294967296
 }
 
+// The set s itself: all its numbers are below 64.
+pub fn below_64(s: u64) -> u64
+    ensures { λ r. ⌜ bit r ≡ sets.below 64 (bit s) ⌝ }
+{
+    s
+}
+
+// The numbers of a that are not in b.
+pub fn minus(a: u64, b: u64) -> u64
+    ensures { λ r. ⌜ bit r ≡ sets.minus (bit a) (bit b) ⌝ }
+{
+    (a | b) ^ b
+}
+
 // Each number of a is in b.
 pub fn subset(a: u64, b: u64) -> bool
     ensures { λ r. ⌜ r ≡ sets.subset 64 (bit a) (bit b) ⌝ }

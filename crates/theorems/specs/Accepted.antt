@@ -12,7 +12,6 @@ use Rattle.model.specs.Limits.{ModuleLimits, SpecLimits, SystemLimits}
 use Rattle.model.specs.Lists.{beside, elem, every, firsts, seconds}
 use Rattle.model.specs.Questions.{Question, eachBelow, exactly, firstNo}
 use Rattle.model.specs.Rules.{B3, B4, B5-to-B9}
-use Rattle.model.specs.Teaching.{vs}
 use Rattle.sets.specs.TestLaws.{<?-out, ==-out, all-out, and-l, and-r, bool?, clash, fails, if-false, if-true, iff-out, iff→≡}
 use Rattle.sets.specs.TestLaws.{not-out, or-l, or-r}
 use Rattle.sets.specs.Tests.{_<?_, _==_, ~_}

@@ -15,7 +15,7 @@ use Rattle.sets.specs.TestLaws.{all-cong, all-in, all-out, and-cong, and-in, an
 use Rattle.sets.specs.TestLaws.{imp-cong, imp-in, imp-out, not-in, not-out, or-l, or-out, or-r}
 use Rattle.sets.specs.Tests.{_&_, _⇒_, all, any, if_then_else_}
 use Rattle.theorems.specs.MapLaws.{andThen-out, has-cong, if-there-cong, if-there-out, isSome-in, isSome-out}
-use Rattle.theorems.specs.Notions.{members, own}
+use Rattle.theorems.specs.Notions.{own}
 
 pub member-composed : (Y : Systems) (s v c w : ℕ) → member Y s v c ≡ some w → composed Y s v ≡ true
 unfolding member composed

@@ -5,7 +5,6 @@ use Rattle.model.specs.Book.{Book}
 use Rattle.model.specs.Commands.{ADD-MOD, ADD-MODVAR, ADD-SPEC, ADD-SYS, ADD-SYSVAR, Command, DEL-MOD, DEL-MODVAR, DEL-SPEC}
 use Rattle.model.specs.Commands.{DEL-SYS, DEL-SYSVAR, after}
 use Rattle.model.specs.PlainBook.{answer}
-use Rattle.model.specs.Teaching.{vs}
 use Rattle.theorems.specs.Good.{Good}
 use Rattle.theorems.specs.KeepDelSpec.{del-spec}
 use Rattle.theorems.specs.KeepModules.{add-mod, del-mod}

@@ -23,7 +23,7 @@ use Rattle.theorems.specs.KeepModules.{gone, implementation-off, less-mo
 use Rattle.theorems.specs.KeepSystems.{Y₀, comp-was, comp≢, less-B4, less-systems, mem-was, not-system, sys-was, system-off}
 use Rattle.theorems.specs.KeepSystems.{sys≢, use-was}
 use Rattle.theorems.specs.MapLaws.{put-other, put-same}
-use Rattle.theorems.specs.Notions.{members, own}
+use Rattle.theorems.specs.Notions.{own}
 
 module _ (b : Book) (g : Good b) (c : ℕ) (unused : (s : ℕ) → usable (b .systems) s c ≡ true → ⊥) where
   abbrev S₀ : Specs

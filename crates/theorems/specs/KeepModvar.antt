@@ -21,7 +21,7 @@ use Rattle.theorems.specs.Good.{Good}
 use Rattle.theorems.specs.KeepVersions.{S₁, VarFit, add-few, del-fit, not-held, var-one, var-slim, version-at}
 use Rattle.theorems.specs.ListLaws.{every-elem}
 use Rattle.theorems.specs.MapLaws.{no-some}
-use Rattle.theorems.specs.Notions.{members, own}
+use Rattle.theorems.specs.Notions.{own}
 
 -- a version of a module changes, and no composition holds this pair
 module _ (b : Book) (g : Good b) (c v : ℕ) (q : Option Set) (i : Option ℕ) (agree : isSome i ≡ isSome q) (implementation< : (n : ℕ) → i ≡ some n → (v < versions) × (n < implementations))

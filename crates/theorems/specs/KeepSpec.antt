@@ -15,7 +15,6 @@ use Rattle.model.specs.Maps.{isSome, optionMap, put}
 use Rattle.model.specs.PlainBook.{answer}
 use Rattle.model.specs.Questions.{eachBelow, free, inLimits, questions}
 use Rattle.model.specs.Rules.{r}
-use Rattle.model.specs.Teaching.{vs}
 use Rattle.sets.specs.Sets.{Set}
 use Rattle.sets.specs.TestLaws.{<?-out, and-l, and-r, clash, not-out, same?, ≤?-out}
 use Rattle.sets.specs.Tests.{count}
@@ -26,7 +25,7 @@ use Rattle.theorems.specs.Frame.{Frame}
 use Rattle.theorems.specs.Good.{B1Facts, B2Facts, Good, version-specified}
 use Rattle.theorems.specs.ListLaws.{beside-elem, beside-second, count-list, every-elem}
 use Rattle.theorems.specs.MapLaws.{has-out, isSome-in, isSome-out, optionMap-out, optionMap-some, put-other, put-same}
-use Rattle.theorems.specs.Notions.{members, own}
+use Rattle.theorems.specs.Notions.{own}
 
 -- what must hold of a specification that is put in
 record Fit (x : Spec) : Type 0 where

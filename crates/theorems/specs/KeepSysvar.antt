@@ -22,7 +22,7 @@ use Rattle.theorems.specs.Good.{B2Facts, Good}
 use Rattle.theorems.specs.KeepSystems.{B3-same, stored-lim}
 use Rattle.theorems.specs.KeepVersions.{VarFit, add-few, del-fit, not-held, requires-at₁, var-one, var-slim, version-at}
 use Rattle.theorems.specs.MapLaws.{no-some}
-use Rattle.theorems.specs.Notions.{members, own}
+use Rattle.theorems.specs.Notions.{own}
 
 module _ (b : Book) (g : Good b) (c v : ℕ) (q : Option Set) (m : Option (Map ℕ)) (agree : isSome m ≡ isSome q) (bare : (f : ℕ) → has q (λ r. r f) ≡ false)
     (member< : (d w : ℕ) → andThen m (λ k. k d) ≡ some w → (d < components) × (w < versions))

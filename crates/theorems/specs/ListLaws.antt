@@ -2,18 +2,19 @@
 use mathlib.Core.Bool.{Bool, false, true}
 use mathlib.Core.List.{List, [], _∷_}
 use mathlib.Core.Logic.{_↔_, _⊎_, inl, inr}
-use mathlib.Core.Option.{Option·some-injective, none, some}
+use mathlib.Core.Option.{Option, Option·some-injective, none, some}
 use mathlib.Core.Path.{_∙_, _≡_, ap, refl, subst, sym}
 use Prim.Native.Nat.{_+_, _<_, _≤_, suc, zero, zero-le, ℕ}
 use native.Mathlib.Nat.{le-refl, le-trans}
 use native.Mathlib.Omega.{arith}
 use lib.ListN.{length}
-use Rattle.model.specs.Lists.{beside, elem, every, firsts, from, keep, rising, seconds}
-use Rattle.model.specs.Maps.{isSome}
+use Rattle.model.specs.Lists.{beside, elem, every, firstFrom, firsts, from, keep, rising, seconds}
+use Rattle.model.specs.Maps.{elseTry, isSome, onlyIf}
+use Rattle.model.specs.Rules.{p, r}
 use Rattle.sets.specs.TestLaws.{==-not, ==-out, ==-same, and-l, and-r, bool?, clash, count-mono, count-none, if-false, if-true}
 use Rattle.sets.specs.TestLaws.{one-if-le-suc, one-if-up, or-false, or-l, or-out, or-r, same?}
 use Rattle.sets.specs.Tests.{_==_, _or_, count, one-if}
-use Rattle.theorems.specs.MapLaws.{isSome-in}
+use Rattle.theorems.specs.MapLaws.{isSome-in, no-some, option?}
 
 pub every-elem : (f : ℕ → Bool) (xs : List ℕ) → every f xs ≡ true → (k : ℕ) → elem k xs ≡ true → f k ≡ true
 unfolding every elem
@@ -101,3 +102,52 @@ from-in (suc k) i n f a l t =
 pub rising-elem : (k n : ℕ) (f : ℕ → Bool) → (elem n (rising k f) ≡ true) ↔ ((n < k) × (f n ≡ true))
 unfolding rising
 rising-elem k n f = (λ t. (let z = from-out k 0 n f t in (omega (arith, z .0), z .1)), λ z. from-in k 0 n f zero-le (omega (arith, z .0)) (z .1))
+
+-- ---- the first that is found
+
+else-some : {A : Type 0} (o p : Option A) (x : A) → elseTry o p ≡ some x → (o ≡ some x) ⊎ (p ≡ some x)
+unfolding elseTry
+else-some none p x e = inr e
+else-some (some y) p x e = inl e
+
+else-none : {A : Type 0} (o p : Option A) → elseTry o p ≡ none → (o ≡ none) × (p ≡ none)
+unfolding elseTry
+else-none none p e = (refl, e)
+else-none (some y) p e = no-some (sym e)
+
+pub only-some : {A : Type 0} (t : Bool) (q x : A) → onlyIf t q ≡ some x → (t ≡ true) × (q ≡ x)
+unfolding onlyIf
+only-some true q x e = (refl, Option·some-injective _ _ e)
+only-some false q x e = no-some e
+
+pub only-none : {A : Type 0} (t : Bool) (q : A) → onlyIf t q ≡ none → t ≡ false
+unfolding onlyIf
+only-none true q e = no-some (sym e)
+only-none false q e = refl
+
+pub firstFrom-some : {A : Type 0} (k i : ℕ) (f : ℕ → Option A) (x : A) → firstFrom k i f ≡ some x → (j : ℕ) × (j < i + k) × (f j ≡ some x)
+unfolding firstFrom
+firstFrom-some zero i f x e = no-some e
+firstFrom-some (suc k) i f x e =
+    elim (else-some (f i) _ x e) [
+      | inl q ↦ (i, omega arith, q)
+      | inr r ↦ (let z = firstFrom-some k (suc i) f x r in (z .0, omega (arith, z .1), z .2))
+    ]
+
+pub firstFrom-none : {A : Type 0} (k i : ℕ) (f : ℕ → Option A) → firstFrom k i f ≡ none → (j : ℕ) → i ≤ j → j < i + k → f j ≡ none
+unfolding firstFrom
+firstFrom-none zero i f e j a h = absurd (omega arith)
+firstFrom-none (suc k) i f e j a h =
+    let q = else-none (f i) _ e in elim (same? j i) [ inl s ↦ rw s (q .0) | inr n ↦ firstFrom-none k (suc i) f (q .1) j (omega arith) (omega arith) ]
+
+-- what is found is found at no lower number
+pub firstFrom-least : {A : Type 0} (k i : ℕ) (f : ℕ → Option A) (x : A) → firstFrom k i f ≡ some x
+    → (j : ℕ) × (f j ≡ some x) × ((m : ℕ) → i ≤ m → m < j → f m ≡ none)
+unfolding firstFrom elseTry
+firstFrom-least zero i f x e = no-some e
+firstFrom-least (suc k) i f x e =
+    elim (option? (f i)) [
+      | inl z ↦ (let r = firstFrom-least k (suc i) f x (sym (ap (λ o. elseTry o (firstFrom k (suc i) f)) z) ∙ e) in
+          (r .0, r .1, λ m a h. elim (same? m i) [ inl s ↦ rw s z | inr n ↦ r .2 m (omega arith) h ]))
+      | inr y ↦ (i, y .1 ∙ sym (ap (λ o. elseTry o (firstFrom k (suc i) f)) (y .1)) ∙ e, λ m a h. absurd (omega arith))
+    ]

@@ -84,3 +84,13 @@ put-same n x m = if-true _ _ _ (==-same n)
 pub put-other : {A : Type 0} (n : ℕ) (x : Option A) (m : Map A) (k : ℕ) → k ≢ n → put n x m k ≡ m k
 unfolding put
 put-other n x m k q = if-false _ _ _ (==-not k n q)
+
+pub has-map : {A B : Type 0} (g : A → B) (o : Option A) (f : B → Bool) → has (optionMap g o) f ≡ has o (λ x. f (g x))
+unfolding has optionMap
+has-map g none f = refl
+has-map g (some x) f = refl
+
+pub then-map : {A B C : Type 0} (g : A → B) (o : Option A) (f : B → Option C) → andThen (optionMap g o) f ≡ andThen o (λ x. f (g x))
+unfolding andThen optionMap
+then-map g none f = refl
+then-map g (some x) f = refl

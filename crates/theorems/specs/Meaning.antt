@@ -19,7 +19,7 @@ use Rattle.theorems.specs.Frame.{system-in, system-out}
 use Rattle.theorems.specs.Good.{Good}
 use Rattle.theorems.specs.Heights.{Sound, bound, falls, high, needs-other, needs-system, usable-system}
 use Rattle.theorems.specs.MapLaws.{has-in, has-out}
-use Rattle.theorems.specs.Notions.{AllYes, FirstNo, MadeFrom, Needs, Reaches, itself, members, no-here, none-left, ofMember}
+use Rattle.theorems.specs.Notions.{AllYes, FirstNo, MadeFrom, Needs, Reaches, itself, memberOf, no-here, none-left, ofMember}
 use Rattle.theorems.specs.Notions.{own, systemsBelow, yes-all, yes-here}
 use Rattle.theorems.specs.Parts.{good→sound, part-closed, part-self}
 use Rattle.theorems.specs.Reach.{reaches-all, reaches-sound}
@@ -70,8 +70,8 @@ needs-means b g c v f = (
 -- ---- parts
 
 made-trans : {Y : Systems} {c v d w e x : ℕ} → member Y c v d ≡ some w → MadeFrom Y d w e x → MadeFrom Y c v e x
-made-trans m itself = members itself m
-made-trans m (members q k) = members (made-trans m q) k
+made-trans m itself = memberOf itself m
+made-trans m (memberOf q k) = memberOf (made-trans m q) k
 
 part-sound : (n : ℕ) (Y : Systems) (c v d w : ℕ) → partIn n Y c v d w ≡ true → MadeFrom Y c v d w
 unfolding partIn
@@ -86,7 +86,7 @@ part-all : (b : Book) (g : Good b) (c v : ℕ) (h : hasVersion (b .specs) c v �
     → MadeFrom (b .systems) c v d w → isPart (b .systems) c v d w ≡ true
 unfolding isPart
 part-all b g c v h itself = part-self (b .systems) components c v
-part-all b g c v h (members {d = d} {w = w} {e = e} {x = x} q m) = part-closed b g c v h d w e x (part-all b g c v h q) m
+part-all b g c v h (memberOf {d = d} {w = w} {e = e} {x = x} q m) = part-closed b g c v h d w e x (part-all b g c v h q) m
 
 pub part-means : (b : Book) → Good b → (c v : ℕ) → hasVersion (b .specs) c v ≡ true
     → (d w : ℕ) → (isPart (b .systems) c v d w ≡ true) ↔ MadeFrom (b .systems) c v d w

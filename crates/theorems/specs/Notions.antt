@@ -56,7 +56,7 @@ only c d = d == c
 -- "what the pair is made from: itself and all pairs reached through compositions"
 pub data MadeFrom (Y : Systems) (c v : ℕ) : ℕ → ℕ → Type 0 where
   itself : MadeFrom Y c v c v
-  members : {d w e x : ℕ} → MadeFrom Y c v d w → member Y d w e ≡ some x → MadeFrom Y c v e x
+  memberOf : {d w e x : ℕ} → MadeFrom Y c v d w → member Y d w e ≡ some x → MadeFrom Y c v e x
 
 -- "A chain goes from a pair to one of its members, and so on; its length counts pairs."
 pub data Chain (Y : Systems) : ℕ → ℕ → ℕ → Type 0 where

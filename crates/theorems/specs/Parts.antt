@@ -2,61 +2,29 @@
 use mathlib.Core.Bool.{Bool, false, true}
 use mathlib.Core.List.{List, [], _∷_}
 use mathlib.Core.Logic.{_⊎_, inl, inr}
-use mathlib.Core.Option.{Option, Option·some-injective, none, some}
+use mathlib.Core.Option.{Option, none, some}
 use mathlib.Core.Path.{_∙_, _≡_, ap, ap₂, refl, subst, sym}
 use Prim.Native.Nat.{_*_, _+_, _<_, _≤_, suc, zero, zero-le, ℕ}
 use native.Mathlib.Nat.{le-refl, le-trans, not-suc-le-zero}
 use native.Mathlib.Omega.{arith}
 use lib.ListN.{length}
-use Rattle.model.specs.Book.{Book, Pair, Systems, components, hasVersion, isSystem, member, versions}
+use Rattle.model.specs.Book.{Book, Pair, Specs, Systems, components, hasVersion, isSystem, member, versions}
 use Rattle.model.specs.Limits.{SystemLimits}
-use Rattle.model.specs.Lists.{firstFrom, ifFound}
-use Rattle.model.specs.Maps.{elseTry, has, onlyIf}
+use Rattle.model.specs.Lists.{ifFound}
+use Rattle.model.specs.Maps.{has}
 use Rattle.model.specs.PartsList.{due, firstPair, isPart, listed, longestChain, membersListed, nextRow, partIn, parts, rowsFrom}
-use Rattle.model.specs.Rules.{p, r}
+use Rattle.model.specs.Rules.{B4, B5, p, r}
 use Rattle.sets.specs.TestLaws.{<?-no, <?-out, ==-out, ==-same, all-in, and-in, and-l, and-r, any-in, any-out, bool?, clash}
 use Rattle.sets.specs.TestLaws.{count-mono, count-strict, fails, not-in, not-out, or-l, or-out, or-r, same?}
 use Rattle.sets.specs.Tests.{_&_, _<?_, _==_, _or_, count}
 use Rattle.theorems.specs.Frame.{mem-usable}
 use Rattle.theorems.specs.Good.{Good, version-specified}
 use Rattle.theorems.specs.Heights.{Sound, bound, falls, longest-chain, usable-system}
-use Rattle.theorems.specs.MapLaws.{has-in, has-out, if-there-in, no-some, option?}
+use Rattle.theorems.specs.ListLaws.{firstFrom-least, firstFrom-none, firstFrom-some, only-none, only-some}
+use Rattle.theorems.specs.MapLaws.{has-in, has-out, if-there-in, option?}
 use Rattle.theorems.specs.Notions.{NotBehind, afterMembers, distinct, pairs, sum, systemsBelow}
 
-else-some : {A : Type 0} (o p : Option A) (x : A) → elseTry o p ≡ some x → (o ≡ some x) ⊎ (p ≡ some x)
-unfolding elseTry
-else-some none p x e = inr e
-else-some (some y) p x e = inl e
-
-else-none : {A : Type 0} (o p : Option A) → elseTry o p ≡ none → (o ≡ none) × (p ≡ none)
-unfolding elseTry
-else-none none p e = (refl, e)
-else-none (some y) p e = no-some (sym e)
-
-only-some : {A : Type 0} (t : Bool) (q x : A) → onlyIf t q ≡ some x → (t ≡ true) × (q ≡ x)
-unfolding onlyIf
-only-some true q x e = (refl, Option·some-injective _ _ e)
-only-some false q x e = no-some e
-
-only-none : {A : Type 0} (t : Bool) (q : A) → onlyIf t q ≡ none → t ≡ false
-unfolding onlyIf
-only-none true q e = no-some (sym e)
-only-none false q e = refl
-
-firstFrom-some : {A : Type 0} (k i : ℕ) (f : ℕ → Option A) (x : A) → firstFrom k i f ≡ some x → (j : ℕ) × (j < i + k) × (f j ≡ some x)
-unfolding firstFrom
-firstFrom-some zero i f x e = no-some e
-firstFrom-some (suc k) i f x e =
-    elim (else-some (f i) _ x e) [
-      | inl q ↦ (i, omega arith, q)
-      | inr r ↦ (let z = firstFrom-some k (suc i) f x r in (z .0, omega (arith, z .1), z .2))
-    ]
-
-firstFrom-none : {A : Type 0} (k i : ℕ) (f : ℕ → Option A) → firstFrom k i f ≡ none → (j : ℕ) → i ≤ j → j < i + k → f j ≡ none
-unfolding firstFrom
-firstFrom-none zero i f e j a h = absurd (omega arith)
-firstFrom-none (suc k) i f e j a h =
-    let q = else-none (f i) _ e in elim (same? j i) [ inl s ↦ rw s (q .0) | inr n ↦ firstFrom-none k (suc i) f (q .1) j (omega arith) (omega arith) ]
+-- ---- the first pair that passes a test
 
 firstPair-some : (test : ℕ → ℕ → Bool) (x : Pair) → firstPair test ≡ some x → (test (x .0) (x .1) ≡ true) × (x .0 < components) × (x .1 < versions)
 unfolding firstPair
@@ -69,18 +37,6 @@ firstPair-some test x e =
 firstPair-none : (test : ℕ → ℕ → Bool) → firstPair test ≡ none → (c v : ℕ) → c < components → v < versions → test c v ≡ false
 unfolding firstPair
 firstPair-none test e c v hc hv = only-none _ _ (firstFrom-none versions 0 _ (firstFrom-none components 0 _ e c zero-le (omega arith)) v zero-le (omega arith))
-
--- what is found is found at no lower number
-firstFrom-least : {A : Type 0} (k i : ℕ) (f : ℕ → Option A) (x : A) → firstFrom k i f ≡ some x
-    → (j : ℕ) × (f j ≡ some x) × ((m : ℕ) → i ≤ m → m < j → f m ≡ none)
-unfolding firstFrom elseTry
-firstFrom-least zero i f x e = no-some e
-firstFrom-least (suc k) i f x e =
-    elim (option? (f i)) [
-      | inl z ↦ (let r = firstFrom-least k (suc i) f x (sym (ap (λ o. elseTry o (firstFrom k (suc i) f)) z) ∙ e) in
-          (r .0, r .1, λ m a h. elim (same? m i) [ inl s ↦ rw s z | inr n ↦ r .2 m (omega arith) h ]))
-      | inr y ↦ (i, y .1 ∙ sym (ap (λ o. elseTry o (firstFrom k (suc i) f)) (y .1)) ∙ e, λ m a h. absurd (omega arith))
-    ]
 
 pub firstPair-least : (test : ℕ → ℕ → Bool) (q : Pair) → firstPair test ≡ some q
     → (d w : ℕ) → d < components → w < versions → test d w ≡ true → NotBehind q d w
@@ -229,15 +185,17 @@ sum-bound (suc n) f h = omega (arith, h n, sum-bound n f h, suc-times n)
     suc-times : (n : ℕ) → suc n * 8 ≡ n * 8 + 8
     suc-times n = omega arith
 
+-- what needs and chains rest on: limits, B4 and B5
+pub rules→sound : (S : Specs) (Y : Systems) → SystemLimits Y → B4 Y ≡ true → B5 S Y ≡ true → Sound Y
+rules→sound S Y l b4 b5 = record {
+  usable< = λ s c u. (l .component< s (usable-system _ s c u), l .usable< s c u);
+  sys-lim = l .component<;
+  b4 = b4;
+  mem-usable = λ s v c w e. mem-usable S Y l b5 s v c w e .0;
+}
+
 pub good→sound : (b : Book) → Good b → Sound (b .systems)
-good→sound b g =
-    let l = g .systemLimits in
-    record {
-      usable< = λ s c u. (l .component< s (usable-system _ s c u), l .usable< s c u);
-      sys-lim = l .component<;
-      b4 = g .b4;
-      mem-usable = λ s v c w e. mem-usable _ _ l (g .b5) s v c w e .0;
-    }
+good→sound b g = rules→sound (b .specs) (b .systems) (g .systemLimits) (g .b4) (g .b5)
 
 module _ (b : Book) (g : Good b) (c v : ℕ) (has-it : hasVersion (b .specs) c v ≡ true) where
   ok : Sound (b .systems)

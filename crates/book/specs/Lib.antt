@@ -1,0 +1,13 @@
+pub mod Layout
+pub mod Plain
+pub mod SlotLaws
+pub mod ReadLaws
+pub mod Readers
+pub mod Same
+pub mod Changes
+pub mod Writers
+pub mod Proper
+pub mod PutLaws
+pub mod DefineLaws
+pub mod SystemLaws
+pub mod SpecLaws

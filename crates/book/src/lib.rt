@@ -1,0 +1,418 @@
+// The Book value: a version book in two arrays, read and written by component and version. What it means is `plainOf` (specs/Plain.antt),
+// and nothing above this crate sees how versions are stored.
+ghost use mathlib.Core.Path.{_≡_};
+ghost use mathlib.Core.Bool.{true, false};
+ghost use mathlib.Core.Option.{some};
+ghost use Prim.Native.Nat.{ℕ, _<_, _≤_, _^_};
+ghost use lib.ListN.{getD};
+ghost use Rattle.sets.specs.Sets.{bit};
+ghost use Rattle.sets.specs.Tests.{count};
+ghost use Rattle.model.specs.Maps.{orElse};
+ghost use Rattle.model.specs.Book as model;
+ghost use Rattle.model.specs.Commands.{after, DEL-SPEC, DEL-MOD, DEL-SYS, DEL-MODVAR, DEL-SYSVAR};
+ghost use Rattle.book.specs.Plain.{plainOf, placeOf, byte, proper};
+ghost use Rattle.book.specs.Changes.{Holds, HasRoom, TakesVersion, HoldsVersion, TakesDefinition, TakesSpec};
+ghost use Rattle.book.specs.Changes.{withSpec, withModule, withSystem, withUndefined, withModvar, withSysvar};
+ghost use Rattle.book.specs.Changes.{rowOf, implementationsOf, systemFrom, specFrom, blank};
+ghost use Rattle.book.specs.Proper.{FreePlace};
+ghost use Rattle.book.specs.PutLaws.{rowIn};
+
+pub struct Book {
+    pub sets: [u64; 576],
+    pub numbers: [u8; 8768],
+}
+
+// Where things stand: see specs/Layout.antt. In `sets`, what a component provides stands at its number.
+const USABLE: usize = 32;
+
+const REQUIRES: usize = 64;
+
+const MEMBERS: usize = 320;
+// In `numbers`, the kind of a component stands at its number.
+const STANDARD: usize = 32;
+
+const VERSION: usize = 64;
+
+const IMPLEMENTATION: usize = 320;
+
+const MEMBER_VERSION: usize = 576;
+
+// The empty book.
+pub fn fresh() -> Book
+    ensures { λ r. ⌜ plainOf (r .sets) (r .numbers) ≡ model.empty ⌝ }
+{
+    Book {
+        sets: [0; 576],
+        numbers: [0; 8768],
+    }
+}
+
+fn wide(x: u8) -> usize
+    ensures { λ r. ⌜ r ≡ x ⌝ }
+{
+    x as usize
+}
+
+fn as_byte(x: u8) -> u8
+    ensures { λ r. ⌜ r ≡ byte x ⌝ }
+{
+    x
+}
+
+// The place of version v of component c, or 256.
+fn place_of(numbers: &[u8; 8768], c: usize, v: usize) -> usize
+    requires { ⌜ c < 32 ⌝ }
+    ensures { λ r. ⌜ r ≡ orElse (placeOf (now (numbers .entry)) c v) 256 ⌝ }
+{
+    if numbers[c] == 0 {
+        return 256;
+    }
+    if 64 <= v {
+        return 256;
+    }
+    for j in 0..8 {
+        if wide(numbers[VERSION + (c * 8 + j)]) == v {
+            return c * 8 + j;
+        }
+    }
+    256
+}
+
+// ---- readers
+
+pub fn is_specified<'a>(sets: &'a [u64; 576], numbers: &'a [u8; 8768], c: usize) -> bool
+    requires { ⌜ c < 32 ⌝ }
+    ensures { λ r. ⌜ r ≡ model.specified (plainOf (now (sets .entry)) (now (numbers .entry)) .specs) c ⌝ }
+{
+    numbers[c] != 0
+}
+
+pub fn is_module<'a>(sets: &'a [u64; 576], numbers: &'a [u8; 8768], c: usize) -> bool
+    requires { ⌜ c < 32 ⌝ }
+    ensures { λ r. ⌜ r ≡ model.isModule (plainOf (now (sets .entry)) (now (numbers .entry)) .modules) c ⌝ }
+{
+    numbers[c] == 2
+}
+
+pub fn is_system<'a>(sets: &'a [u64; 576], numbers: &'a [u8; 8768], c: usize) -> bool
+    requires { ⌜ c < 32 ⌝ }
+    ensures { λ r. ⌜ r ≡ model.isSystem (plainOf (now (sets .entry)) (now (numbers .entry)) .systems) c ⌝ }
+{
+    numbers[c] == 3
+}
+
+// What component c provides.
+pub fn provides<'a>(sets: &'a [u64; 576], numbers: &'a [u8; 8768], c: usize) -> u64
+    requires { ⌜ c < 32 ⌝ }
+    ensures { λ r. ⌜ bit r ≡ model.provides (plainOf (now (sets .entry)) (now (numbers .entry)) .specs) c ⌝ }
+{
+    if numbers[c] == 0 {
+        return 0;
+    }
+    sets::below_64(sets[c])
+}
+
+// The standard version of a specified component.
+pub fn standard<'a>(sets: &'a [u64; 576], numbers: &'a [u8; 8768], c: usize) -> usize
+    requires { ⌜ c < 32 ⌝ }
+    ensures { λ r. ⌜ r ≡ model.standard (plainOf (now (sets .entry)) (now (numbers .entry)) .specs) c ⌝ }
+{
+    if numbers[c] == 0 {
+        return 0;
+    }
+    wide(numbers[STANDARD + c])
+}
+
+pub fn has_version<'a>(sets: &'a [u64; 576], numbers: &'a [u8; 8768], c: usize, v: usize) -> bool
+    requires { ⌜ c < 32 ⌝ }
+    ensures { λ r. ⌜ r ≡ model.hasVersion (plainOf (now (sets .entry)) (now (numbers .entry)) .specs) c v ⌝ }
+{
+    place_of(numbers, c, v) < 256
+}
+
+// The versions of component c.
+pub fn versions<'a>(sets: &'a [u64; 576], numbers: &'a [u8; 8768], c: usize) -> u64
+    requires { ⌜ c < 32 ⌝ }
+    ensures { λ r. ⌜ bit r ≡ model.hasVersion (plainOf (now (sets .entry)) (now (numbers .entry)) .specs) c ⌝ }
+{
+    if numbers[c] == 0 {
+        return 0;
+    }
+    let mut found: u64 = 0;
+    for j in 0..8 {
+        let v = wide(numbers[VERSION + (c * 8 + j)]);
+        if v < 64 {
+            found = sets::with(found, v);
+        }
+    }
+    found
+}
+
+// What version v of component c requires: nothing where c has no version v.
+pub fn required<'a>(sets: &'a [u64; 576], numbers: &'a [u8; 8768], c: usize, v: usize) -> u64
+    requires { ⌜ c < 32 ⌝ }
+    ensures { λ r. ⌜ bit r ≡ model.requires (plainOf (now (sets .entry)) (now (numbers .entry)) .specs) c v ⌝ }
+{
+    let i = place_of(numbers, c, v);
+    if 256 <= i {
+        return 0;
+    }
+    sets::below_64(sets[REQUIRES + i])
+}
+
+// The implementation of version v of module c.
+pub fn implementation<'a>(sets: &'a [u64; 576], numbers: &'a [u8; 8768], c: usize, v: usize) -> u8
+    requires { ⌜ c < 32 ⌝ }
+    ensures { λ r. ⌜ r ≡ orElse (model.implementation (plainOf (now (sets .entry)) (now (numbers .entry)) .modules) c v) 0 ⌝ }
+{
+    if numbers[c] != 2 {
+        return 0;
+    }
+    let i = place_of(numbers, c, v);
+    if 256 <= i {
+        return 0;
+    }
+    as_byte(numbers[IMPLEMENTATION + i])
+}
+
+// The usable components of c: none where it is no system.
+pub fn usable<'a>(sets: &'a [u64; 576], numbers: &'a [u8; 8768], c: usize) -> u64
+    requires { ⌜ c < 32 ⌝ }
+    ensures { λ r. ⌜ bit r ≡ model.usable (plainOf (now (sets .entry)) (now (numbers .entry)) .systems) c ⌝ }
+{
+    if numbers[c] != 3 {
+        return 0;
+    }
+    sets::below_32(sets[USABLE + c])
+}
+
+// The members of version v of c: none where c is no system or has no version v.
+pub fn members<'a>(sets: &'a [u64; 576], numbers: &'a [u8; 8768], c: usize, v: usize) -> u64
+    requires { ⌜ c < 32 ⌝ }
+    ensures { λ r. ⌜ bit r ≡ model.isMember (plainOf (now (sets .entry)) (now (numbers .entry)) .systems) c v ⌝ }
+{
+    if numbers[c] != 3 {
+        return 0;
+    }
+    let i = place_of(numbers, c, v);
+    if 256 <= i {
+        return 0;
+    }
+    sets::below_32(sets[MEMBERS + i])
+}
+
+// The version that the composition of version v of c gives to its member m.
+pub fn member_version<'a>(
+    sets: &'a [u64; 576],
+    numbers: &'a [u8; 8768],
+    c: usize,
+    v: usize,
+    m: usize,
+) -> usize
+    requires { ⌜ (c < 32) × (m < 32) ⌝ }
+    requires { ⌜ model.isMember (plainOf (now sets) (now numbers) .systems) c v m ≡ true ⌝ }
+    ensures { λ r. ⌜ model.member (plainOf (now (sets .entry)) (now (numbers .entry)) .systems) c v m ≡ some r ⌝ }
+{
+    let i = place_of(numbers, c, v);
+    if 256 <= i {
+        return 0;
+    }
+    wide(numbers[MEMBER_VERSION + (i * 32 + m)])
+}
+
+// ---- writers
+
+// A free place of component c.
+fn free_place<'a>(sets: &'a [u64; 576], numbers: &'a [u8; 8768], c: usize) -> usize
+    requires { ⌜ HasRoom (now sets) (now numbers) c ⌝ }
+    ensures { λ r. ⌜ FreePlace (now (numbers .entry)) c r ⌝ }
+{
+    for j in 0..8 {
+        if 64 <= wide(numbers[VERSION + (c * 8 + j)]) {
+            return c * 8 + j;
+        }
+    }
+    0
+}
+
+// Row v of rows is stored at place i.
+fn put_row(numbers: &mut [u8; 8768], i: usize, rows: &[u8; 2048], v: usize)
+    requires { ⌜ (i < 256) × (v < 64) ⌝ }
+    ensures { λ r. ⌜ now (numbers .exit) ≡ rowIn (now (numbers .entry)) i (now (rows .entry)) v 32 ⌝ }
+{
+    for m in 0..32 {
+        numbers[MEMBER_VERSION + (i * 32 + m)] = rows[v * 32 + m];
+    }
+}
+
+// Version v of component c, which is not defined, is put in.
+fn put_version(b: Book, c: usize, v: usize, required: u64) -> Book
+    requires { ⌜ TakesVersion (b .sets) (b .numbers) c v ⌝ }
+    requires { ⌜ model.isDefined (plainOf (b .sets) (b .numbers) .modules) (plainOf (b .sets) (b .numbers) .systems) c ≡ false ⌝ }
+    ensures { λ r. ⌜ Holds (r .sets) (r .numbers) (withUndefined (plainOf (b .sets) (b .numbers)) c v (bit required)) ⌝ }
+{
+    let i = free_place(&b.sets, &b.numbers, c);
+    let mut n = b;
+    n.numbers[VERSION + i] = v as u8;
+    n.sets[REQUIRES + i] = required;
+    n
+}
+
+// Version v of module c is put in, with what it requires and its implementation.
+pub fn put_modvar(b: Book, c: usize, v: usize, required: u64, implementation: u8) -> Book
+    requires { ⌜ TakesVersion (b .sets) (b .numbers) c v ⌝ }
+    requires { ⌜ model.isModule (plainOf (b .sets) (b .numbers) .modules) c ≡ true ⌝ }
+    ensures { λ r. ⌜ Holds (r .sets) (r .numbers) (withModvar (plainOf (b .sets) (b .numbers)) c v (bit required) implementation) ⌝ }
+{
+    let i = free_place(&b.sets, &b.numbers, c);
+    let mut n = b;
+    n.numbers[VERSION + i] = v as u8;
+    n.sets[REQUIRES + i] = required;
+    n.numbers[IMPLEMENTATION + i] = implementation;
+    n
+}
+
+// Version v of system c is put in, with empty requirements and a composition: its members, with their versions in row v.
+pub fn put_sysvar(b: Book, c: usize, v: usize, members: u64, rows: &[u8; 2048]) -> Book
+    requires { ⌜ TakesVersion (b .sets) (b .numbers) c v ⌝ }
+    requires { ⌜ (model.isSystem (plainOf (b .sets) (b .numbers) .systems) c ≡ true) × (members < 2 ^ 32) ⌝ }
+    ensures { λ r. ⌜ Holds (r .sets) (r .numbers) (withSysvar (plainOf (b .sets) (b .numbers)) c v (rowOf members (now (rows .entry)) v)) ⌝ }
+{
+    let i = free_place(&b.sets, &b.numbers, c);
+    let mut n = b;
+    n.numbers[VERSION + i] = v as u8;
+    n.sets[REQUIRES + i] = 0;
+    n.sets[MEMBERS + i] = members;
+    put_row(&mut n.numbers, i, rows, v);
+    n
+}
+
+// Version v of module c is taken out.
+pub fn take_modvar(b: Book, c: usize, v: usize) -> Book
+    requires { ⌜ HoldsVersion (b .sets) (b .numbers) c v ⌝ }
+    requires { ⌜ model.isModule (plainOf (b .sets) (b .numbers) .modules) c ≡ true ⌝ }
+    ensures { λ r. ⌜ Holds (r .sets) (r .numbers) (after (plainOf (b .sets) (b .numbers)) (DEL-MODVAR c v)) ⌝ }
+{
+    let i = place_of(&b.numbers, c, v);
+    let mut n = b;
+    n.numbers[VERSION + i] = 64;
+    n
+}
+
+// Version v of system c is taken out.
+pub fn take_sysvar(b: Book, c: usize, v: usize) -> Book
+    requires { ⌜ HoldsVersion (b .sets) (b .numbers) c v ⌝ }
+    requires { ⌜ model.isSystem (plainOf (b .sets) (b .numbers) .systems) c ≡ true ⌝ }
+    ensures { λ r. ⌜ Holds (r .sets) (r .numbers) (after (plainOf (b .sets) (b .numbers)) (DEL-SYSVAR c v)) ⌝ }
+{
+    let i = place_of(&b.numbers, c, v);
+    let mut left = b;
+    left.numbers[VERSION + i] = 64;
+    left
+}
+
+// The specification of component c is taken out, and a definition too.
+pub fn take_spec(b: Book, c: usize) -> Book
+    requires { ⌜ (c < 32) × (proper (b .sets) (b .numbers) ≡ true) ⌝ }
+    ensures { λ r. ⌜ Holds (r .sets) (r .numbers) (after (plainOf (b .sets) (b .numbers)) (DEL-SPEC c)) ⌝ }
+{
+    let mut n = b;
+    n.numbers[c] = 0;
+    n
+}
+
+// The definition of module c is taken out.
+pub fn take_mod(b: Book, c: usize) -> Book
+    requires { ⌜ (c < 32) × (proper (b .sets) (b .numbers) ≡ true) ⌝ }
+    requires { ⌜ model.isModule (plainOf (b .sets) (b .numbers) .modules) c ≡ true ⌝ }
+    ensures { λ r. ⌜ Holds (r .sets) (r .numbers) (after (plainOf (b .sets) (b .numbers)) (DEL-MOD c)) ⌝ }
+{
+    let mut rest = b;
+    rest.numbers[c] = 1;
+    rest
+}
+
+// The definition of system c is taken out.
+pub fn take_sys(b: Book, c: usize) -> Book
+    requires { ⌜ (c < 32) × (proper (b .sets) (b .numbers) ≡ true) ⌝ }
+    requires { ⌜ model.isSystem (plainOf (b .sets) (b .numbers) .systems) c ≡ true ⌝ }
+    ensures { λ r. ⌜ Holds (r .sets) (r .numbers) (after (plainOf (b .sets) (b .numbers)) (DEL-SYS c)) ⌝ }
+{
+    let mut left = b;
+    left.numbers[c] = 1;
+    left
+}
+
+// Component c is defined as a module: its version v gets the implementation at v.
+pub fn put_mod(b: Book, c: usize, implementations: &[u8; 64]) -> Book
+    requires { ⌜ TakesDefinition (b .sets) (b .numbers) c ⌝ }
+    ensures { λ r. ⌜ Holds (r .sets) (r .numbers) (withModule (plainOf (b .sets) (b .numbers)) c
+        (implementationsOf (plainOf (b .sets) (b .numbers) .specs) c (now (implementations .entry)))) ⌝ }
+{
+    let mut n = b;
+    for j in 0..8 {
+        let v = wide(n.numbers[VERSION + (c * 8 + j)]);
+        if v < 64 {
+            n.numbers[IMPLEMENTATION + (c * 8 + j)] = implementations[v];
+        }
+    }
+    n.numbers[c] = 2;
+    n
+}
+
+// Component c is defined as a system: its version v gets the members at v, with their versions in row v.
+pub fn put_sys(b: Book, c: usize, usable: u64, members: &[u64; 64], rows: &[u8; 2048]) -> Book
+    requires { ⌜ (TakesDefinition (b .sets) (b .numbers) c) × (usable < 2 ^ 32) ⌝ }
+    requires { ⌜ ((v : ℕ) → model.hasVersion (plainOf (b .sets) (b .numbers) .specs) c v ≡ true → getD (now members) v 0 < 2 ^ 32) ⌝ }
+    ensures { λ r. ⌜ Holds (r .sets) (r .numbers) (withSystem (plainOf (b .sets) (b .numbers)) c (systemFrom
+        (plainOf (b .sets) (b .numbers) .specs) c usable (now (members .entry)) (now (rows .entry)))) ⌝ }
+{
+    let mut n = b;
+    for j in 0..8 {
+        let v = wide(n.numbers[VERSION + (c * 8 + j)]);
+        if v < 64 {
+            n.sets[MEMBERS + (c * 8 + j)] = members[v];
+            put_row(&mut n.numbers, c * 8 + j, rows, v);
+        }
+    }
+    n.sets[USABLE + c] = usable;
+    n.numbers[c] = 3;
+    n
+}
+
+// Component c is specified, with no version yet.
+fn put_blank(b: Book, c: usize, provides: u64, standard: u8) -> Book
+    requires { ⌜ TakesSpec (b .sets) (b .numbers) c ⌝ }
+    ensures { λ r. ⌜ Holds (r .sets) (r .numbers) (withSpec (plainOf (b .sets) (b .numbers)) c (blank (bit provides) standard)) ⌝ }
+{
+    let mut n = b;
+    for j in 0..8 {
+        n.numbers[VERSION + (c * 8 + j)] = 64;
+    }
+    n.sets[c] = provides;
+    n.numbers[STANDARD + c] = standard;
+    n.numbers[c] = 1;
+    n
+}
+
+// Component c is specified: what it provides, the set of its versions, what the version v requires at v, the standard version.
+pub fn put_spec(
+    b: Book,
+    c: usize,
+    provides: u64,
+    versions: u64,
+    requirements: &[u64; 64],
+    standard: u8,
+) -> Book
+    requires { ⌜ (TakesSpec (b .sets) (b .numbers) c) × (count 64 (bit versions) ≤ 8) ⌝ }
+    ensures { λ r. ⌜ Holds (r .sets) (r .numbers) (withSpec (plainOf (b .sets) (b .numbers)) c (specFrom (bit provides) (bit versions)
+        (now (requirements .entry)) standard 64)) ⌝ }
+{
+    let mut n = put_blank(b, c, provides, standard);
+    for v in 0..64 {
+        if sets::member(versions, v) {
+            n = put_version(n, c, v, sets::below_64(requirements[v]));
+        }
+    }
+    n
+}

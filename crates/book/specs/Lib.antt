@@ -11,3 +11,4 @@ pub mod PutLaws
 pub mod DefineLaws
 pub mod SystemLaws
 pub mod SpecLaws
+pub mod TestLaws

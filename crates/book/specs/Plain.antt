@@ -70,18 +70,31 @@ plainOf s n = record { specs = specsOf s n; modules = modulesOf n; systems = sys
 
 -- ---- the part of the question for 25 that is put to the arrays themselves: "are its numbers below their limits", "different versions"
 
+unfoldable pub slotLow : List ℕ → ℕ → ℕ → Bool
+slotLow n c j = slotsOf n c j ≤? versions
+
 -- no version stands in two slots
-unfoldable pub distinctSlots : List ℕ → ℕ → Bool
-distinctSlots n c = all 8 (λ j. all 8 (λ k. slotsOf n c j <? versions ⇒ slotsOf n c j == slotsOf n c k ⇒ j == k))
+unfoldable pub slotsApart : List ℕ → ℕ → ℕ → ℕ → Bool
+slotsApart n c j k = slotsOf n c j <? versions ⇒ slotsOf n c j == slotsOf n c k ⇒ j == k
+
+unfoldable pub slotApart : List ℕ → ℕ → ℕ → Bool
+slotApart n c j = all 8 (slotsApart n c j)
+
+-- the members of the version in slot j are below 32
+unfoldable pub membersLow : List ℕ → List ℕ → ℕ → ℕ → Bool
+membersLow s n c j = slotsOf n c j <? versions ⇒ membersAt s (c * 8 + j) <? 2 ^ 32
 
 -- the usable components and the members of a system are below 32
-unfoldable pub setsBelow : List ℕ → List ℕ → ℕ → Bool
-setsBelow s n c = usableAt s c <? 2 ^ 32 & all 8 (λ j. slotsOf n c j <? versions ⇒ membersAt s (c * 8 + j) <? 2 ^ 32)
+unfoldable pub setsLow : List ℕ → List ℕ → ℕ → Bool
+setsLow s n c = usableAt s c <? 2 ^ 32 & all 8 (membersLow s n c)
 
 unfoldable pub properAt : List ℕ → List ℕ → ℕ → Bool
-properAt s n c = kindAt n c ≤? 3 & all 8 (λ j. slotsOf n c j ≤? versions) & distinctSlots n c & (kindAt n c == 3 ⇒ setsBelow s n c)
+properAt s n c = kindAt n c ≤? 3 & all 8 (slotLow n c) & all 8 (slotApart n c) & (kindAt n c == 3 ⇒ setsLow s n c)
+
+unfoldable pub properIf : List ℕ → List ℕ → ℕ → Bool
+properIf s n c = ~ (kindAt n c == 0) ⇒ properAt s n c
 
 -- Of the remaining numbers, a standard version or a member's version of 64 or more is none that its component has (B1, B5), and
 -- every number that an array can hold is below the limit of facilities and implementations.
 unfoldable pub proper : List ℕ → List ℕ → Bool
-proper s n = all components (λ c. ~ (kindAt n c == 0) ⇒ properAt s n c)
+proper s n = all components (properIf s n)

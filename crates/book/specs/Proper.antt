@@ -8,7 +8,8 @@ use native.Mathlib.Omega.{arith}
 use borrow.Fn.PlainCycle.{is}
 use Rattle.book.specs.Changes.{HasRoom}
 use Rattle.book.specs.Layout.{kindAt, membersAt, slotsOf, usableAt}
-use Rattle.book.specs.Plain.{distinctSlots, placeOf, proper, properAt, setsBelow, slot, specifiedAt, specsOf}
+use Rattle.book.specs.Plain.{membersLow, placeOf, proper, properAt, properIf, setsLow, slot, slotApart, slotLow, slotsApart}
+use Rattle.book.specs.Plain.{specifiedAt, specsOf}
 use Rattle.book.specs.ReadLaws.{hasVersion-plain, specified-plain}
 use Rattle.book.specs.SlotLaws.{Distinct, slots-full}
 use Rattle.model.specs.Book.{components, specified, versions}
@@ -32,7 +33,7 @@ module _ (s n : List ℕ) (c : ℕ) where
     pub members : kindAt n c ≡ 3 → (j : ℕ) → j < 8 → slotsOf n c j < versions → membersAt s (c * 8 + j) < 2 ^ 32
 
   pub proper-facts : properAt s n c ≡ true → ProperFacts
-  unfolding properAt distinctSlots setsBelow Distinct
+  unfolding properAt slotLow slotsApart slotApart membersLow setsLow Distinct
   proper-facts t =
       let t1 = and-r _ _ t in let t2 = and-r _ _ t1 in
       record {
@@ -44,7 +45,7 @@ module _ (s n : List ℕ) (c : ℕ) where
       }
 
   pub facts-proper : ProperFacts → properAt s n c ≡ true
-  unfolding properAt distinctSlots setsBelow Distinct
+  unfolding properAt slotLow slotsApart slotApart membersLow setsLow Distinct
   facts-proper f =
       and-in _ _ (≤?-in _ _ (f .kind)) (and-in _ _ (all-in 8 _ (λ j l. ≤?-in _ _ (f .low j l)))
       (and-in _ _ (all-in 8 _ (λ j l. all-in 8 _ (λ k h. imp-in _ _ (λ low. imp-in _ _ (λ e. ==-in _ _ (f .distinct j k l h (<?-out _ _ low) (==-out _ _ e)))))))
@@ -52,7 +53,7 @@ module _ (s n : List ℕ) (c : ℕ) where
       (all-in 8 _ (λ j l. imp-in _ _ (λ low. <?-in _ _ (f .members (==-out _ _ e) j l (<?-out _ _ low)))))))))
 
   pub proper-component : proper s n ≡ true → c < components → kindAt n c ≢ 0 → ProperFacts
-  unfolding proper
+  unfolding proper properIf
   proper-component t l ne = proper-facts (imp-out _ _ (all-out 32 _ t c l) (not-in _ (==-not _ _ ne)))
 
 -- a component that is specified has a kind

@@ -180,8 +180,11 @@ module-limits n = record {
       (place-limit n c v (z .0) (z .1) .1, rw (sym (z .2)) (unfold byte in mod-lt _ (zero-lt-suc 255))));
 }
 
+pub usable-limit : (s n : List ℕ) (c d : ℕ) → usable (systemsOf s n) c d ≡ true → d < components
+usable-limit s n c d t = component-limit _ d (and-r _ _ (sym (usable-plain s n c d) ∙ t))
+
 module _ (s n : List ℕ) where
-  composed-limit : (c v : ℕ) → composed (systemsOf s n) c v ≡ true → v < versions
+  pub composed-limit : (c v : ℕ) → composed (systemsOf s n) c v ≡ true → v < versions
   unfolding composed
   composed-limit c v t =
       let o = isSome-out _ t in
@@ -189,10 +192,10 @@ module _ (s n : List ℕ) where
       let y = optionMap-out _ _ (o .0) (z .1) in
       place-limit n c v (y .0) (y .1) .1
 
-  system-limit : (c : ℕ) → isSystem (systemsOf s n) c ≡ true → c < components
+  pub system-limit : (c : ℕ) → isSystem (systemsOf s n) c ≡ true → c < components
   system-limit c t = kindIs-limit n 3 c (sym (isSystem-plain s n c) ∙ t)
 
-  member-limit : (c v m w : ℕ) → member (systemsOf s n) c v m ≡ some w → m < components
+  pub member-limit : (c v m w : ℕ) → member (systemsOf s n) c v m ≡ some w → m < components
   member-limit c v m w e =
       let z = if-some _ _ w (sym (member-plain s n c v m) ∙ e) in
       let y = andThen-out _ _ w (z .1) in
@@ -209,7 +212,7 @@ module _ (s n : List ℕ) where
   pub system-limits : B5 (specsOf s n) (systemsOf s n) ≡ true → SystemLimits (systemsOf s n)
   system-limits b5 = record {
     component< = system-limit;
-    usable< = λ c d t. component-limit _ d (and-r _ _ (sym (usable-plain s n c d) ∙ t));
+    usable< = λ c d t. usable-limit s n c d t;
     version< = composed-limit;
     member< = λ c v m w e. (member-limit c v m w e, member-version b5 c v m w e);
   }

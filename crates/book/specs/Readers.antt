@@ -229,3 +229,9 @@ implementation-absent s n c v ne = sym (ap (λ (o : Option ℕ). orElse o 0) (im
 pub members-absent : (s n : List ℕ) (c v : ℕ) → (kindAt n c ≡ 3 → ⊥) → bit 0 ≡ isMember (systemsOf s n) c v
 unfolding isMember isSome
 members-absent s n c v ne = fun-ext (λ m. bit-zero m ∙ sym (ap isSome (member-plain s n c v m ∙ if-false _ _ _ (not-kind n 3 c ne))))
+
+-- there is no version from 64 on
+pub member-high : (s n : List ℕ) (c v m : ℕ) → versions ≤ v → member (systemsOf s n) c v m ≡ none
+unfolding andThen
+member-high s n c v m h = member-plain s n c v m
+    ∙ if-none _ _ (ap (λ (o : Option ℕ). andThen o (λ i. compositionAt s n i m)) (no-version n c v (slot-high _ v h)))

@@ -9,8 +9,9 @@ use native.Mathlib.Omega.{arith}
 use lib.ListN.{getD}
 use Rattle.book.specs.Layout.{implementationAt, kindAt, memberVersionAt, membersAt, providesAt, requiresAt, slotsOf}
 use Rattle.book.specs.Layout.{standardAt, usableAt, versionAt}
-use Rattle.book.specs.Plain.{byte, componentSet, compositionAt, distinctSlots, facilitySet, kindIs, moduleAt, modulesOf}
-use Rattle.book.specs.Plain.{placeOf, proper, properAt, setsBelow, specAt, specifiedAt, specsOf, systemAt, systemsOf}
+use Rattle.book.specs.Plain.{byte, componentSet, compositionAt, facilitySet, kindIs, membersLow, moduleAt, modulesOf, placeOf}
+use Rattle.book.specs.Plain.{proper, properAt, properIf, setsLow, slotApart, slotLow, slotsApart, specAt, specifiedAt}
+use Rattle.book.specs.Plain.{specsOf, systemAt, systemsOf}
 use Rattle.book.specs.ReadLaws.{component-limit, place-limit}
 use Rattle.book.specs.SlotLaws.{only-no, only-yes, slot-same, slot-some}
 use Rattle.model.specs.Book.{Spec, System, components, implementation, provides, requires, standard, usable, versions}
@@ -107,7 +108,7 @@ module _ (s n s′ n′ : List ℕ) (c : ℕ) (same : SameComponent s n s′ n�
       (fun-ext (map-same _ _ _ _ place-same (at-place _ _ (λ j l. composition-same s n s′ n′ _ (same .places j l))))))
 
   pub same-proper : properAt s′ n′ c ≡ properAt s n c
-  unfolding properAt distinctSlots setsBelow
+  unfolding properAt slotLow slotsApart slotApart membersLow setsLow
   same-proper =
       let slots = same .slots in
       ap₂ _&_ (ap (λ (k : ℕ). k ≤? 3) (same .head .kind))
@@ -206,7 +207,7 @@ module _ (s n s′ n′ : List ℕ) (c : ℕ) (same : (d : ℕ) → d < 32 → d
   other-systems = elsewhere _ _ (λ d l ne. same-systems s n s′ n′ d (same d l ne)) (λ d h. (only-no _ _ (past 3 d n h), only-no _ _ (past 3 d n′ h)))
 
   pub proper-rest : proper s n ≡ true → (kindAt n′ c ≢ 0 → properAt s′ n′ c ≡ true) → proper s′ n′ ≡ true
-  unfolding proper
+  unfolding proper properIf
   proper-rest p h = all-in 32 _ (λ d l. imp-in _ _ (λ t. elim (same? d c) [
     | inl e ↦ rw e (h (λ z. ==-no _ _ (not-out _ t) (ap (kindAt n′) e ∙ z)))
     | inr ne ↦ same-proper s n s′ n′ d (same d l ne)

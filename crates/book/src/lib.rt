@@ -6,11 +6,12 @@ ghost use mathlib.Core.Option.{some};
 ghost use Prim.Native.Nat.{ℕ, _<_, _≤_, _^_};
 ghost use lib.ListN.{getD};
 ghost use Rattle.sets.specs.Sets.{bit};
-ghost use Rattle.sets.specs.Tests.{count};
+ghost use Rattle.sets.specs.Tests.{all, count};
 ghost use Rattle.model.specs.Maps.{orElse};
 ghost use Rattle.model.specs.Book as model;
 ghost use Rattle.model.specs.Commands.{after, DEL-SPEC, DEL-MOD, DEL-SYS, DEL-MODVAR, DEL-SYSVAR};
 ghost use Rattle.book.specs.Plain.{plainOf, placeOf, byte, proper};
+ghost use Rattle.book.specs.Plain as plain;
 ghost use Rattle.book.specs.Changes.{Holds, HasRoom, TakesVersion, HoldsVersion, TakesDefinition, TakesSpec};
 ghost use Rattle.book.specs.Changes.{withSpec, withModule, withSystem, withUndefined, withModvar, withSysvar};
 ghost use Rattle.book.specs.Changes.{rowOf, implementationsOf, systemFrom, specFrom, blank};
@@ -218,6 +219,145 @@ pub fn member_version<'a>(
         return 0;
     }
     wide(numbers[MEMBER_VERSION + (i * 32 + m)])
+}
+
+// ---- the part of the test for 25 that is put to the arrays themselves
+
+fn slot_low(numbers: &[u8; 8768], c: usize, j: usize) -> bool
+    requires { ⌜ (c < 32) × (j < 8) ⌝ }
+    ensures { λ r. ⌜ r ≡ plain.slotLow (now (numbers .entry)) c j ⌝ }
+{
+    wide(numbers[VERSION + (c * 8 + j)]) <= 64
+}
+
+fn slots_low(numbers: &[u8; 8768], c: usize) -> bool
+    requires { ⌜ c < 32 ⌝ }
+    ensures { λ r. ⌜ r ≡ all 8 (plain.slotLow (now (numbers .entry)) c) ⌝ }
+{
+    for j in 0..8 {
+        if !slot_low(numbers, c, j) {
+            return false;
+        }
+    }
+    true
+}
+
+// Slots j and k do not hold one version, or are one slot.
+fn slots_apart(numbers: &[u8; 8768], c: usize, j: usize, k: usize) -> bool
+    requires { ⌜ (c < 32) × (j < 8) × (k < 8) ⌝ }
+    ensures { λ r. ⌜ r ≡ plain.slotsApart (now (numbers .entry)) c j k ⌝ }
+{
+    let v = wide(numbers[VERSION + (c * 8 + j)]);
+    let w = wide(numbers[VERSION + (c * 8 + k)]);
+    if 64 <= v {
+        return true;
+    }
+    if v != w {
+        return true;
+    }
+    j == k
+}
+
+fn slot_apart(numbers: &[u8; 8768], c: usize, j: usize) -> bool
+    requires { ⌜ (c < 32) × (j < 8) ⌝ }
+    ensures { λ r. ⌜ r ≡ plain.slotApart (now (numbers .entry)) c j ⌝ }
+{
+    for k in 0..8 {
+        if !slots_apart(numbers, c, j, k) {
+            return false;
+        }
+    }
+    true
+}
+
+fn all_apart(numbers: &[u8; 8768], c: usize) -> bool
+    requires { ⌜ c < 32 ⌝ }
+    ensures { λ r. ⌜ r ≡ all 8 (plain.slotApart (now (numbers .entry)) c) ⌝ }
+{
+    for j in 0..8 {
+        if !slot_apart(numbers, c, j) {
+            return false;
+        }
+    }
+    true
+}
+
+fn members_low<'a>(sets: &'a [u64; 576], numbers: &'a [u8; 8768], c: usize, j: usize) -> bool
+    requires { ⌜ (c < 32) × (j < 8) ⌝ }
+    ensures { λ r. ⌜ r ≡ plain.membersLow (now (sets .entry)) (now (numbers .entry)) c j ⌝ }
+{
+    let v = wide(numbers[VERSION + (c * 8 + j)]);
+    if 64 <= v {
+        return true;
+    }
+    sets[MEMBERS + (c * 8 + j)] < 4294967296
+}
+
+fn all_members_low<'a>(sets: &'a [u64; 576], numbers: &'a [u8; 8768], c: usize) -> bool
+    requires { ⌜ c < 32 ⌝ }
+    ensures { λ r. ⌜ r ≡ all 8 (plain.membersLow (now (sets .entry)) (now (numbers .entry)) c) ⌝ }
+{
+    for j in 0..8 {
+        if !members_low(sets, numbers, c, j) {
+            return false;
+        }
+    }
+    true
+}
+
+fn sets_low<'a>(sets: &'a [u64; 576], numbers: &'a [u8; 8768], c: usize) -> bool
+    requires { ⌜ c < 32 ⌝ }
+    ensures { λ r. ⌜ r ≡ plain.setsLow (now (sets .entry)) (now (numbers .entry)) c ⌝ }
+{
+    let usable = sets[USABLE + c];
+    if 4294967296 <= usable {
+        return false;
+    }
+    all_members_low(sets, numbers, c)
+}
+
+fn proper_at<'a>(sets: &'a [u64; 576], numbers: &'a [u8; 8768], c: usize) -> bool
+    requires { ⌜ c < 32 ⌝ }
+    ensures { λ r. ⌜ r ≡ plain.properAt (now (sets .entry)) (now (numbers .entry)) c ⌝ }
+{
+    let kind = numbers[c];
+    let low = slots_low(numbers, c);
+    let apart = all_apart(numbers, c);
+    if 3 < kind {
+        return false;
+    }
+    if !low {
+        return false;
+    }
+    if !apart {
+        return false;
+    }
+    if kind == 3 {
+        return sets_low(sets, numbers, c);
+    }
+    true
+}
+
+fn proper_if<'a>(sets: &'a [u64; 576], numbers: &'a [u8; 8768], c: usize) -> bool
+    requires { ⌜ c < 32 ⌝ }
+    ensures { λ r. ⌜ r ≡ plain.properIf (now (sets .entry)) (now (numbers .entry)) c ⌝ }
+{
+    if numbers[c] == 0 {
+        return true;
+    }
+    proper_at(sets, numbers, c)
+}
+
+// The numbers that stand in the arrays are below their limits, and no component has a version twice.
+pub fn is_proper<'a>(sets: &'a [u64; 576], numbers: &'a [u8; 8768]) -> bool
+    ensures { λ r. ⌜ r ≡ proper (now (sets .entry)) (now (numbers .entry)) ⌝ }
+{
+    for c in 0..32 {
+        if !proper_if(sets, numbers, c) {
+            return false;
+        }
+    }
+    true
 }
 
 // ---- writers

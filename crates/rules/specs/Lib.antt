@@ -1,0 +1,7 @@
+pub mod Table
+pub mod WalkLaws
+pub mod RuleLaws
+pub mod Closure
+pub mod CompositionLaws
+pub mod Test
+pub mod TestLaws

@@ -15,7 +15,7 @@ use Rattle.text.specs.Written.{written}
 
 -- what a book may say, by names
 pub data Fact : Type 0 where
-  Specified Module System : Name → Fact
+  IsSpecified IsModule IsSystem : Name → Fact
   -- component and facility, version, or usable component
   Provides Version Standard Usable Composed : Name → Name → Fact
   -- component, version, and facility or implementation
@@ -29,9 +29,9 @@ at t w test = has (place t w) test
 
 -- the book says so, where each number is replaced by its name
 unfoldable pub holds : State → Fact → Bool
-holds s (Specified c) = at (s .tables .comps) c (specified (s .book .specs))
-holds s (Module c) = at (s .tables .comps) c (isModule (s .book .modules))
-holds s (System c) = at (s .tables .comps) c (isSystem (s .book .systems))
+holds s (IsSpecified c) = at (s .tables .comps) c (specified (s .book .specs))
+holds s (IsModule c) = at (s .tables .comps) c (isModule (s .book .modules))
+holds s (IsSystem c) = at (s .tables .comps) c (isSystem (s .book .systems))
 holds s (Provides c f) = at (s .tables .comps) c (λ c. at (s .tables .facs) f (provides (s .book .specs) c))
 holds s (Version c v) = at (s .tables .comps) c (λ c. at (s .tables .vers) v (hasVersion (s .book .specs) c))
 holds s (Standard c v) =

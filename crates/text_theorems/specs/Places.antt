@@ -1,0 +1,305 @@
+-- Laws of one table of names, for all four and every size.
+use mathlib.Core.Bool.{Bool, false, true}
+use mathlib.Core.List.{List, [], _++_, _∷_, append-assoc, append-nil, map}
+use mathlib.Core.Logic.{_⊎_, inl, inr}
+use mathlib.Core.Option.{Option, Option·some-injective, none, some}
+use mathlib.Core.Path.{_∙_, _≡_, ap, refl, subst, sym}
+use Prim.Native.Nat.{_<_, _≤_, suc, zero, zero-le, ℕ}
+use native.Mathlib.Nat.{le-trans}
+use native.Mathlib.Omega.{arith}
+use lib.Dec.{T}
+use lib.ListN.{getD, length}
+use Rattle.model.specs.Lists.{elem, every, nonEmpty, once}
+use Rattle.model.specs.Maps.{has, isSome, optionMap, orElse}
+use Rattle.sets.specs.TestLaws.{<?-out, ==-in, ==-out, ==-same, and-in, and-l, and-r, bool?, clash, count-le, count-strict, fails}
+use Rattle.sets.specs.TestLaws.{if-false, if-true, iff→≡, not-in, not-out, or-false, or-l, or-out, or-r}
+use Rattle.sets.specs.Tests.{_&_, _<?_, _==_, count, if_then_else_, ~_}
+use Rattle.text.specs.Bytes.{Text, among, same, short}
+use Rattle.text.specs.Handed.{Once}
+use Rattle.text.specs.Language.{Name}
+use Rattle.text.specs.Tables.{Table, enter, nameAt, number, place}
+use Rattle.text_theorems.specs.ReadsBack.{same-out, same-refl}
+use Rattle.text_theorems.specs.Renamed.{Renaming}
+use Rattle.theorems.specs.MapLaws.{has-in, has-out, isSome-in, isSome-out, no-some, option?, optionMap-out}
+
+-- ---- the place of a name
+
+pub place-name : (t : Table) (w : Name) (n : ℕ) → place t w ≡ some n → (nameAt t n ≡ w) × (n < length t)
+unfolding place nameAt
+place-name [] w n e = no-some e
+place-name (x ∷ xs) w n e =
+    elim (bool? (same w x)) [
+      | inl q ↦ (let z : 0 ≡ n = Option·some-injective _ _ (sym (if-true _ _ _ q) ∙ e) in subst (λ (k : ℕ). (getD (x ∷ xs) k [] ≡ w) × (k < length (x ∷ xs))) z (sym (same-out w x q), omega arith))
+      | inr q ↦ (let o = optionMap-out suc (place xs w) n (sym (if-false _ _ _ q) ∙ e) in let i = place-name xs w (o .0) (o .1) in
+          subst (λ (k : ℕ). (getD (x ∷ xs) k [] ≡ w) × (k < length (x ∷ xs))) (o .2) (i .0, omega arith))
+    ]
+
+pub place-there : (t : Table) (w : Name) → among w t ≡ true → isSome (place t w) ≡ true
+unfolding place among optionMap
+place-there [] w a = clash a refl
+place-there (x ∷ xs) w a =
+    elim (bool? (same w x)) [
+      | inl q ↦ isSome-in _ (if-true _ _ _ q)
+      | inr q ↦ (let i = isSome-out _ (place-there xs w (sym (or-false _ _ q) ∙ a)) in isSome-in _ {x = suc (i .0)} (if-false _ _ _ q ∙ ap (optionMap suc) (i .1)))
+    ]
+
+pub place-among : (t : Table) (w : Name) (n : ℕ) → place t w ≡ some n → among w t ≡ true
+unfolding place among
+place-among [] w n e = no-some e
+place-among (x ∷ xs) w n e =
+    elim (bool? (same w x)) [
+      | inl q ↦ or-l _ _ q
+      | inr q ↦ (let o = optionMap-out suc (place xs w) n (sym (if-false _ _ _ q) ∙ e) in or-r _ _ (place-among xs w (o .0) (o .1)))
+    ]
+
+pub name-among : (t : Table) (n : ℕ) → nonEmpty (nameAt t n) ≡ true → among (nameAt t n) t ≡ true
+unfolding nameAt among
+name-among [] n e = clash e (unfold nonEmpty in refl)
+name-among (x ∷ xs) zero e = or-l _ _ (same-refl x)
+name-among (x ∷ xs) (suc n) e = or-r _ _ (name-among xs n e)
+
+-- with no name twice, a name's place is its number
+pub place-of : (t : Table) → Once t → (n : ℕ) → nonEmpty (nameAt t n) ≡ true → place t (nameAt t n) ≡ some n
+place-of t o n e =
+    let q = isSome-out _ (place-there t (nameAt t n) (name-among t n e)) in
+    q .1 ∙ ap some (sym (o n (q .0) e (sym (place-name t (nameAt t n) (q .0) (q .1) .0))))
+
+-- ---- a longer table
+
+pub place-longer : (t u : Table) (w : Name) → among w t ≡ true → place (t ++ u) w ≡ place t w
+unfolding place among
+place-longer [] u w a = clash a refl
+place-longer (x ∷ xs) u w a =
+    elim (bool? (same w x)) [
+      | inl q ↦ if-true _ _ _ q ∙ sym (if-true _ _ _ q)
+      | inr q ↦ if-false _ _ _ q ∙ ap (optionMap suc) (place-longer xs u w (sym (or-false _ _ q) ∙ a)) ∙ sym (if-false _ _ _ q)
+    ]
+
+pub number-longer : (t u : Table) (w : Name) → among w t ≡ true → number (t ++ u) w ≡ number t w
+unfolding number
+number-longer t u w a = ap (λ (o : Option ℕ). orElse o 0) (place-longer t u w a)
+
+pub among-l : (w : Name) (t u : Table) → among w t ≡ true → among w (t ++ u) ≡ true
+unfolding among
+among-l w [] u a = clash a refl
+among-l w (x ∷ xs) u a = elim (or-out _ _ a) [ inl q ↦ or-l _ _ q | inr q ↦ or-r _ _ (among-l w xs u q) ]
+
+pub among-r : (w : Name) (t u : Table) → among w u ≡ true → among w (t ++ u) ≡ true
+unfolding among
+among-r w [] u a = a
+among-r w (x ∷ xs) u a = or-r _ _ (among-r w xs u a)
+
+pub among-out : (w : Name) (t u : Table) → among w (t ++ u) ≡ true → (among w t ≡ true) ⊎ (among w u ≡ true)
+unfolding among
+among-out w [] u a = inr a
+among-out w (x ∷ xs) u a = elim (or-out _ _ a) [ inl q ↦ inl (or-l _ _ q) | inr q ↦ elim (among-out w xs u q) [ inl z ↦ inl (or-r _ _ z) | inr z ↦ inr z ] ]
+
+-- ---- names put in
+
+pub enter-longer : (t : Table) (ws : List Name) → (u : Table) × (enter t ws ≡ t ++ u)
+unfolding enter
+enter-longer t [] = ([], sym (append-nil t))
+enter-longer t (w ∷ ws) =
+    elim (bool? (among w t)) [
+      | inl q ↦ (let i = enter-longer t ws in (i .0, ap (λ (z : Table). enter z ws) (if-true _ _ _ q) ∙ i .1))
+      | inr q ↦ (let i = enter-longer (t ++ (w ∷ [])) ws in ((w ∷ []) ++ i .0, ap (λ (z : Table). enter z ws) (if-false _ _ _ q) ∙ i .1 ∙ append-assoc t (w ∷ []) (i .0)))
+    ]
+
+pub enter-keeps : (t : Table) (ws : List Name) (w : Name) → among w t ≡ true → among w (enter t ws) ≡ true
+enter-keeps t ws w a = let i = enter-longer t ws in subst (λ (z : Table). among w z ≡ true) (sym (i .1)) (among-l w t (i .0) a)
+
+put-in : Table → Name → Table
+put-in t w = if among w t then t else (t ++ (w ∷ []))
+
+put-in-has : (t : Table) (w : Name) → among w (put-in t w) ≡ true
+unfolding put-in
+put-in-has t w =
+    elim (bool? (among w t)) [
+      | inl q ↦ ap (among w) (if-true _ _ _ q) ∙ q
+      | inr q ↦ ap (among w) (if-false _ _ _ q) ∙ among-r w t (w ∷ []) (unfold among in or-l _ _ (same-refl w))
+    ]
+
+pub enter-has : (t : Table) (ws : List Name) → every (λ w. among w (enter t ws)) ws ≡ true
+unfolding enter every put-in
+enter-has t [] = refl
+enter-has t (w ∷ ws) = and-in _ _ (enter-keeps (put-in t w) ws w (put-in-has t w)) (enter-has (put-in t w) ws)
+
+-- a test that each name passes
+pub every-append : {A : Type 0} (test : A → Bool) (xs ys : List A) → every test xs ≡ true → every test ys ≡ true → every test (xs ++ ys) ≡ true
+unfolding every
+every-append test [] ys p q = q
+every-append test (x ∷ xs) ys p q = and-in _ _ (and-l _ _ p) (every-append test xs ys (and-r _ _ p) q)
+
+pub enter-every : (test : Name → Bool) (t : Table) (ws : List Name) → every test t ≡ true → every test ws ≡ true → every test (enter t ws) ≡ true
+unfolding enter every
+enter-every test t [] p q = p
+enter-every test t (w ∷ ws) p q = enter-every test _ ws
+    (elim (bool? (among w t)) [
+      | inl e ↦ ap (every test) (if-true _ _ _ e) ∙ p
+      | inr e ↦ ap (every test) (if-false _ _ _ e) ∙ every-append test t (w ∷ []) p (unfold every in and-in _ _ (and-l _ _ q) refl)
+    ]) (and-r _ _ q)
+
+pub every-among : (test : Name → Bool) (t : Table) (w : Name) → every test t ≡ true → among w t ≡ true → test w ≡ true
+unfolding every among
+every-among test [] w p a = clash a refl
+every-among test (x ∷ xs) w p a = elim (or-out _ _ a) [ inl q ↦ ap test (same-out w x q) ∙ and-l _ _ p | inr q ↦ every-among test xs w (and-r _ _ p) q ]
+
+-- ---- no name twice
+
+unfoldable pub apart : Table → Bool
+apart [] = true
+apart (x ∷ xs) = ~ (among x xs) & apart xs
+
+same-sym : (a b : Text) → same a b ≡ true → same b a ≡ true
+same-sym a b e = ap (λ (z : Text). same b z) (same-out a b e) ∙ same-refl b
+
+one-among : (x w : Name) → among x (w ∷ []) ≡ true → same x w ≡ true
+unfolding among
+one-among x w z = elim (or-out _ _ z) [ inl y ↦ y | inr y ↦ clash y refl ]
+
+apart-more : (t : Table) (w : Name) → apart t ≡ true → among w t ≡ false → apart (t ++ (w ∷ [])) ≡ true
+unfolding apart among
+apart-more [] w p q = and-in _ _ (not-in _ refl) refl
+apart-more (x ∷ xs) w p q =
+    and-in _ _ (not-in _ (fails _ (λ a. elim (among-out x xs (w ∷ []) a) [
+      | inl z ↦ clash {A = ⊥} z (not-out _ (and-l _ _ p))
+      | inr z ↦ clash {A = ⊥} (or-l (same w x) (among w xs) (same-sym x w (one-among x w z))) q
+    ])))
+    (apart-more xs w (and-r _ _ p) (fails _ (λ a. clash {A = ⊥} (or-r (same w x) (among w xs) a) q)))
+
+pub enter-apart : (t : Table) (ws : List Name) → apart t ≡ true → apart (enter t ws) ≡ true
+unfolding enter
+enter-apart t [] p = p
+enter-apart t (w ∷ ws) p = enter-apart _ ws
+    (elim (bool? (among w t)) [
+      | inl e ↦ ap apart (if-true _ _ _ e) ∙ p
+      | inr e ↦ ap apart (if-false _ _ _ e) ∙ apart-more t w p e
+    ])
+
+pub apart-once : (t : Table) → apart t ≡ true → Once t
+unfolding apart nameAt
+apart-once [] p i j e q = clash e (unfold nonEmpty in refl)
+apart-once (x ∷ xs) p zero zero e q = refl
+apart-once (x ∷ xs) p zero (suc j) e q =
+    clash (ap (λ (z : Name). among z xs) q ∙ name-among xs j (subst (λ (z : Name). nonEmpty z ≡ true) q e)) (not-out _ (and-l _ _ p))
+apart-once (x ∷ xs) p (suc i) zero e q =
+    clash (ap (λ (z : Name). among z xs) (sym q) ∙ name-among xs i e) (not-out _ (and-l _ _ p))
+apart-once (x ∷ xs) p (suc i) (suc j) e q = ap suc (apart-once xs (and-r _ _ p) i j e q)
+
+-- ---- as many names as numbers
+
+-- the name has a number below n
+unfoldable pub known : Table → ℕ → Name → Bool
+known t n w = has (place t w) (λ k. k <? n)
+
+pub number-at : (t : Table) (w : Name) (n : ℕ) → place t w ≡ some n → number t w ≡ n
+unfolding number orElse
+number-at t w n e = ap (λ (o : Option ℕ). orElse o 0) e
+
+number-apart : (t : Table) (w x : Name) → isSome (place t w) ≡ true → isSome (place t x) ≡ true → number t w ≡ number t x → w ≡ x
+number-apart t w x p q e =
+    let a = isSome-out _ p in let b = isSome-out _ q in
+    sym (place-name t w (a .0) (a .1) .0) ∙ ap (nameAt t) (sym (number-at t w (a .0) (a .1)) ∙ e ∙ number-at t x (b .0) (b .1)) ∙ place-name t x (b .0) (b .1) .0
+
+known-there : (t : Table) (L : ℕ) (w : Name) → known t L w ≡ true → isSome (place t w) ≡ true
+unfolding known
+known-there t L w k = let q = has-out _ _ k in isSome-in _ (q .1)
+
+elem-map : (t : Table) (L : ℕ) (w : Name) (T : Table) → every (known t L) T ≡ true → known t L w ≡ true → elem (number t w) (map (number t) T) ≡ true → among w T ≡ true
+unfolding elem among every
+elem-map t L w [] p q e = clash e refl
+elem-map t L w (x ∷ xs) p q e =
+    elim (or-out _ _ e) [
+      | inl z ↦ or-l _ _ (ap (λ (y : Name). same w y) (sym (number-apart t w x (known-there t L w q) (known-there t L x (and-l _ _ p)) (==-out _ _ z))) ∙ same-refl w)
+      | inr z ↦ or-r _ _ (elem-map t L w xs (and-r _ _ p) q z)
+    ]
+
+pub once-count : (L : ℕ) (xs : List ℕ) → once xs ≡ true → every (λ x. x <? L) xs ≡ true → length xs ≤ count L (λ i. elem i xs)
+unfolding once every elem
+once-count L [] o b = zero-le
+once-count L (x ∷ xs) o b =
+    le-trans (suc-le (once-count L xs (and-r _ _ o) (and-r _ _ b)))
+    (count-strict L (λ i. elem i xs) (λ i. elem i (x ∷ xs)) (λ i l e. or-r _ _ e) x (<?-out _ _ (and-l _ _ b)) (not-out _ (and-l _ _ o)) (or-l _ _ (==-same x)))
+  where
+    suc-le : {m n : ℕ} → m ≤ n → suc m ≤ suc n
+    suc-le h = omega arith
+
+apart-numbers : (t : Table) (L : ℕ) (T : Table) → apart T ≡ true → every (known t L) T ≡ true → once (map (number t) T) ≡ true
+unfolding apart every once
+apart-numbers t L [] a k = refl
+apart-numbers t L (x ∷ xs) a k =
+    and-in _ _ (not-in _ (fails _ (λ e. clash {A = ⊥} (elem-map t L x xs (and-r _ _ k) (and-l _ _ k) e) (not-out _ (and-l _ _ a))))) (apart-numbers t L xs (and-r _ _ a) (and-r _ _ k))
+
+small-numbers : (t : Table) (L : ℕ) (T : Table) → every (known t L) T ≡ true → every (λ x. x <? L) (map (number t) T) ≡ true
+unfolding every known
+small-numbers t L [] k = refl
+small-numbers t L (x ∷ xs) k =
+    let q = has-out _ _ (and-l _ _ k) in
+    and-in _ _ (ap (λ (n : ℕ). n <? L) (number-at t x (q .0) (q .1)) ∙ q .2) (small-numbers t L xs (and-r _ _ k))
+
+pub length-map : {A B : Type 0} (f : A → B) (xs : List A) → length (map f xs) ≡ length xs
+length-map f [] = refl
+length-map f (x ∷ xs) = ap suc (length-map f xs)
+
+-- a table of names that all have numbers below L in another has at most L names
+pub known-fits : (t : Table) (L : ℕ) (T : Table) → apart T ≡ true → every (known t L) T ≡ true → length T ≤ L
+known-fits t L T a k =
+    subst (λ (n : ℕ). n ≤ L) (length-map (number t) T)
+    (le-trans (once-count L (map (number t) T) (apart-numbers t L T a k) (small-numbers t L T k)) (count-le L (λ i. elem i (map (number t) T))))
+
+-- ---- from one table's numbers to another's
+
+-- the number in T of what is n in t
+unfoldable pub new : Table → Table → ℕ → ℕ
+new t T n = number T (nameAt t n)
+
+-- the number in t of what is m in T: L, which nothing has, where t has not its name
+unfoldable pub old : Table → Table → ℕ → ℕ → ℕ
+old t T L m = orElse (place t (nameAt T m)) L
+
+module _ (t T : Table) (L : ℕ) (Use : ℕ → Type 0) (ot : Once t) (aT : apart T ≡ true) (short : length T ≤ L)
+    (used : (n : ℕ) → Use n → (n < L) × (nonEmpty (nameAt t n) ≡ true) × (among (nameAt t n) T ≡ true)) where
+  at-new : (n : ℕ) → Use n → place T (nameAt t n) ≡ some (new t T n)
+  unfolding new
+  at-new n u = let q = isSome-out _ (place-there T (nameAt t n) (used n u .2)) in q .1 ∙ ap some (sym (number-at T (nameAt t n) (q .0) (q .1)))
+
+  old-at : (m n : ℕ) → place t (nameAt T m) ≡ some n → old t T L m ≡ n
+  unfolding old orElse
+  old-at m n e = ap (λ (o : Option ℕ). orElse o L) e
+
+  old-no : (m : ℕ) → place t (nameAt T m) ≡ none → old t T L m ≡ L
+  unfolding old orElse
+  old-no m e = ap (λ (o : Option ℕ). orElse o L) e
+
+  new-old : (m n : ℕ) → place t (nameAt T m) ≡ some n → nonEmpty (nameAt t n) ≡ true → new t T n ≡ m
+  unfolding new
+  new-old m n e h =
+      let q = place-name t (nameAt T m) n e .0 in
+      number-at T (nameAt t n) m (ap (place T) q ∙ place-of T (apart-once T aT) m (subst (λ (z : Name). nonEmpty z ≡ true) q h))
+
+  pub renaming : Renaming (old t T L) (new t T) L Use
+  renaming = record {
+    back = λ n u. old-at (new t T n) n (ap (place t) (place-name T (nameAt t n) (new t T n) (at-new n u) .0) ∙ place-of t ot n (used n u .1));
+    small = λ n u. le-trans (place-name T (nameAt t n) (new t T n) (at-new n u) .1) short;
+    forth = λ m u. elim (option? (place t (nameAt T m))) [
+      | inl e ↦ (let h = used _ u .0 in let z = old-no m e in absurd (omega arith))
+      | inr q ↦ (let z = old-at m (q .0) (q .1) in ap (new t T) z ∙ new-old m (q .0) (q .1) (subst (λ (k : ℕ). nonEmpty (nameAt t k) ≡ true) z (used _ u .1)))
+    ];
+  }
+
+  -- a test at a name's number, in T and in t
+  pub at-through : (w : Name) (P P′ : ℕ → Bool) → ((m : ℕ) → P′ m ≡ P (old t T L m)) → ((n : ℕ) → P n ≡ true → Use n) → has (place T w) P′ ≡ has (place t w) P
+  at-through w P P′ h u = iff→≡ _ _
+      (λ e. let q = has-out _ _ e in let m = q .0 in let a = place-name T w m (q .1) .0 in let k = sym (h m) ∙ q .2 in
+        elim (option? (place t (nameAt T m))) [
+          | inl z ↦ (let b = used _ (u _ k) .0 in let c = old-no m z in absurd (omega arith))
+          | inr z ↦ has-in _ _ (z .0) (ap (place t) (sym a) ∙ z .1) (ap P (sym (old-at m (z .0) (z .1))) ∙ k)
+        ])
+      (λ e. let q = has-out _ _ e in let n = q .0 in let a = place-name t w n (q .1) .0 in let k = u n (q .2) in
+        has-in _ _ (new t T n) (ap (place T) (sym a) ∙ at-new n k) (h _ ∙ ap P (renaming .back n k) ∙ q .2))
+
+-- two numbers are equal, in either table
+pub eq-through : (f g : ℕ → ℕ) (L : ℕ) (Use : ℕ → Type 0) → Renaming f g L Use → (m d : ℕ) → Use d → (m == g d) ≡ (f m == d)
+eq-through f g L Use R m d u = iff→≡ _ _
+    (λ e. ==-in _ _ (ap f (==-out _ _ e) ∙ R .back d u))
+    (λ e. ==-in _ _ (sym (R .forth m (subst Use (sym (==-out _ _ e)) u)) ∙ ap g (==-out _ _ e)))

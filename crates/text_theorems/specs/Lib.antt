@@ -6,3 +6,7 @@ pub mod Places
 pub mod Runs
 pub mod Listed
 pub mod Steps
+pub mod Order
+pub mod Mentions
+pub mod Rebuilt
+pub mod RoundTrip

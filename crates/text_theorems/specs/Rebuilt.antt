@@ -1,0 +1,375 @@
+-- A book written as text and read into an empty session.
+use mathlib.Core.Bool.{Bool, false, true}
+use mathlib.Core.List.{List, [], _∷_, map, map-map}
+use mathlib.Core.Logic.{inl, inr}
+use mathlib.Core.Option.{Option, none, some}
+use mathlib.Core.Path.{_∙_, _≡_, ap, ap₂, refl, subst, sym}
+use Prim.Native.Nat.{ℕ}
+use lib.ListN.{length}
+use Rattle.model.specs.Book.{Book, Modules, Specs, Systems, components, composed, empty, facilities, hasVersion, implementation}
+use Rattle.model.specs.Book.{isMember, isModule, isSystem, member, provides, requires, specified, standard, usable, versions}
+use Rattle.model.specs.Commands.{ADD-MOD, ADD-SPEC, ADD-SYS, Command, after}
+use Rattle.model.specs.Lists.{elem, once}
+use Rattle.model.specs.Maps.{has, isSome, optionMap, orElse}
+use Rattle.model.specs.PlainBook.{answer}
+use Rattle.model.specs.Rules.{B5, B5at}
+use Rattle.sets.specs.TestLaws.{==-in, ==-not, ==-out, ==-same, and-in, and-l, and-r, any-out, bool?, clash, fails, if-false}
+use Rattle.sets.specs.TestLaws.{if-true, not-out, or-false, or-l, or-out, or-r}
+use Rattle.text.specs.Bytes.{same, validImplementation, validName}
+use Rattle.text.specs.Handed.{Named}
+use Rattle.text.specs.Language.{Name, NamedMembers, Said, standards}
+use Rattle.text.specs.SameByNames.{accepted}
+use Rattle.text.specs.Session.{session}
+use Rattle.text.specs.Tables.{Tables, modNumbered, nameAt, noNames, number, numberedMembers, numbers, specNumbered, sysNumbered}
+use Rattle.text.specs.Written.{asCommands, byName, facilityNames, membersOf, modOf, specOf, sysOf, systemsFrom, systemsInOrder}
+use Rattle.text.specs.Written.{written}
+use Rattle.text_theorems.specs.Listed.{every-of, lists-nonEmpty}
+use Rattle.text_theorems.specs.Mentions.{T, T-fits, cs-lists, li-lists, lk-lists, lm-lists, lp-lists, lq-lists, lu-lists}
+use Rattle.text_theorems.specs.Mentions.{lv-lists, ms-lists, renumbering, valid-some, ys-lists}
+use Rattle.text_theorems.specs.Order.{Can, Fine, none-left, one-more, systems-all, systems-fine}
+use Rattle.text_theorems.specs.Places.{new}
+use Rattle.text_theorems.specs.ReadsBack.{Writable, aMod, aSpec, aSys, flag, nonEmpty-map, okMember, okMod, okSys, okVersion}
+use Rattle.text_theorems.specs.ReadsBack.{same-out, same-refl}
+use Rattle.text_theorems.specs.Renamed.{Renaming, Renumbering, UsedC}
+use Rattle.text_theorems.specs.Runs.{Numbered, Plan, go, nMod, nSpec, nSys, plan-append, plan-runs, runs-length, runs-text}
+use Rattle.text_theorems.specs.Runs.{stop}
+use Rattle.text_theorems.specs.Steps.{M′, S′, Y′, bm, bs, by, isModule′, isSystem′, mod-after, mod-yes, modK, only-all}
+use Rattle.text_theorems.specs.Steps.{only-none, spec-after, spec-yes, specK, specified′, sys-after, sys-yes, sysK}
+use Rattle.text_theorems.specs.Steps.{sysMembers}
+use Rattle.theorems.specs.Frame.{composition-out, mem-usable}
+use Rattle.theorems.specs.Good.{Good}
+use Rattle.theorems.specs.MapLaws.{isSome-out}
+use contract.Running.{tables}
+
+-- ---- one phase
+
+pushed : (ℕ → ℕ) → List ℕ → List ℕ → List ℕ
+pushed gc [] l = l
+pushed gc (c ∷ cs) l = pushed gc cs (gc c ∷ l)
+
+pushed-keeps : (gc : ℕ → ℕ) (cs l : List ℕ) (m : ℕ) → elem m l ≡ true → elem m (pushed gc cs l) ≡ true
+unfolding pushed elem
+pushed-keeps gc [] l m e = e
+pushed-keeps gc (c ∷ cs) l m e = pushed-keeps gc cs (gc c ∷ l) m (or-r _ _ e)
+
+pushed-in : (gc : ℕ → ℕ) (cs l : List ℕ) (n : ℕ) → elem n cs ≡ true → elem (gc n) (pushed gc cs l) ≡ true
+unfolding pushed elem
+pushed-in gc [] l n e = clash e refl
+pushed-in gc (c ∷ cs) l n e =
+    elim (or-out _ _ e) [ inl q ↦ pushed-keeps gc cs (gc c ∷ l) (gc n) (unfold elem in or-l _ _ (==-in _ _ (ap gc (==-out _ _ q)))) | inr q ↦ pushed-in gc cs (gc c ∷ l) n q ]
+
+record Step (T : Tables) (gc : ℕ → ℕ) (bk : List ℕ → Book) (mk : ℕ → Said) (l : List ℕ) (c : ℕ) : Type 0 where
+  K : Command
+  writable : Writable (mk c)
+  numbered : Numbered T (mk c) K
+  yes′ : answer (bk l) K ≡ 0
+  gives : after (bk l) K ≡ bk (gc c ∷ l)
+
+phase : (T : Tables) (gc : ℕ → ℕ) (bk : List ℕ → Book) (mk : ℕ → Said) (Can : List ℕ → ℕ → Type 0) → ((l : List ℕ) (c : ℕ) → Can l c → Step T gc bk mk l c)
+    → {l cs : List ℕ} → Fine gc Can l cs → Plan T (bk l) (map mk cs) (bk (pushed gc cs l))
+unfolding pushed
+phase T gc bk mk Can h none-left = stop
+phase T gc bk mk Can h (one-more {l = l} {c = c} {cs = cs} k r) =
+    let q = h l c k in
+    go (q .K) (q .writable) (q .numbered) (q .yes′) (subst (λ (z : Book). Plan T z (map mk cs) (bk (pushed gc cs (gc c ∷ l)))) (sym (q .gives)) (phase T gc bk mk Can h r))
+
+-- a list without repetition goes in
+list-fine : (fc gc : ℕ → ℕ) (L : ℕ) (Use : ℕ → Type 0) → Renaming fc gc L Use → (test : ℕ → Bool) → ((n : ℕ) → test n ≡ true → Use n) → (cs l : List ℕ) → once cs ≡ true
+    → ((n : ℕ) → elem n cs ≡ true → (test n ≡ true) × (elem (gc n) l ≡ false)) → Fine gc (λ l c. (test c ≡ true) × (elem (gc c) l ≡ false)) l cs
+unfolding once elem
+list-fine fc gc L Use R test u [] l o h = none-left
+list-fine fc gc L Use R test u (c ∷ cs) l o h =
+    one-more (h c (or-l _ _ (==-same c))) (list-fine fc gc L Use R test u cs (gc c ∷ l) (and-r _ _ o) (λ n e.
+      (h n (or-r _ _ e) .0, or-false _ _ (==-not (gc n) (gc c) (λ z.
+        clash {A = ⊥} (subst (λ (k : ℕ). elem k cs ≡ true) (sym (R .back n (u n (h n (or-r _ _ e) .0))) ∙ ap fc z ∙ R .back c (u c (h c (or-l _ _ (==-same c)) .0))) e) (not-out _ (and-l _ _ o)))) ∙ h n (or-r _ _ e) .1)))
+
+-- ---- the standard version's mark
+
+no-mark : (N : ℕ → Name) (h : ℕ → List Name) (d : ℕ) (l : List ℕ) → ((n : ℕ) → elem n l ≡ true → same (N n) (N d) ≡ false) → standards (map (flag (N d)) (map (λ v. (N v, h v)) l)) ≡ []
+unfolding standards flag elem
+no-mark N h d [] k = refl
+no-mark N h d (x ∷ xs) k = if-false _ _ _ (k x (or-l _ _ (==-same x))) ∙ no-mark N h d xs (λ n e. k n (or-r _ _ e))
+
+one-mark : (N : ℕ → Name) (h : ℕ → List Name) (d : ℕ) (l : List ℕ) → once l ≡ true → elem d l ≡ true → ((n : ℕ) → elem n l ≡ true → same (N n) (N d) ≡ true → n ≡ d)
+    → standards (map (flag (N d)) (map (λ v. (N v, h v)) l)) ≡ N d ∷ []
+unfolding standards flag elem once
+one-mark N h d [] o e k = clash e refl
+one-mark N h d (x ∷ xs) o e k =
+    elim (bool? (same (N x) (N d))) [
+      | inl q ↦ (let z = k x (or-l _ _ (==-same x)) q in
+          if-true _ _ _ q ∙ ap₂ (λ (a : Name) (r : List Name). a ∷ r) (ap N z)
+          (no-mark N h d xs (λ n w. fails _ (λ y. clash {A = ⊥} (subst (λ (i : ℕ). elem i xs ≡ true) (k n (or-r _ _ w) y ∙ sym z) w) (not-out _ (and-l _ _ o))))))
+      | inr q ↦ if-false _ _ _ q ∙ one-mark N h d xs (and-r _ _ o)
+          (elim (or-out _ _ e) [ inl z ↦ clash (ap (λ (i : ℕ). same (N i) (N d)) (sym (==-out _ _ z)) ∙ same-refl (N d)) q | inr z ↦ z ])
+          (λ n w y. k n (or-r _ _ w) y)
+    ]
+
+-- ---- a proper book
+
+module _ (b : Book) (t : Tables) (g : Good b) (nm : Named (record { book = b; tables = t })) where
+  abbrev S : Specs
+  S = b .specs
+
+  abbrev M : Modules
+  M = b .modules
+
+  abbrev Y : Systems
+  Y = b .systems
+
+  abbrev U : Tables
+  U = T b t g nm
+
+  abbrev re : Renumbering S M
+  re = renumbering b t g nm
+
+  abbrev fc : ℕ → ℕ
+  fc = re .fc
+
+  abbrev gc : ℕ → ℕ
+  gc = re .gc
+
+  abbrev lp : ℕ → List ℕ
+  lp c = byName (t .facs) facilities (provides S c)
+
+  abbrev lv : ℕ → List ℕ
+  lv c = byName (t .vers) versions (hasVersion S c)
+
+  abbrev lq : ℕ → ℕ → List ℕ
+  lq c v = byName (t .facs) facilities (requires S c v)
+
+  abbrev li : ℕ → List ℕ
+  li c = byName (t .vers) versions (λ v. isSome (implementation M c v))
+
+  abbrev im : ℕ → ℕ → ℕ
+  im c v = orElse (implementation M c v) 0
+
+  abbrev lu : ℕ → List ℕ
+  lu s = byName (t .comps) components (usable Y s)
+
+  abbrev lk : ℕ → List ℕ
+  lk s = byName (t .vers) versions (composed Y s)
+
+  abbrev lm : ℕ → ℕ → List ℕ
+  lm s v = byName (t .comps) components (isMember Y s v)
+
+  abbrev mv : ℕ → ℕ → ℕ → ℕ
+  mv s v c = orElse (member Y s v c) 0
+
+  or-at : (o : Option ℕ) (n : ℕ) → o ≡ some n → orElse o 0 ≡ n
+  unfolding orElse
+  or-at o n e = ap (λ (x : Option ℕ). orElse x 0) e
+
+  -- ---- specs
+
+  spec-writable : (c : ℕ) → specified S c ≡ true → Writable (specOf b t c)
+  unfolding specOf facilityNames okVersion
+  spec-writable c e = aSpec (nm .component c e)
+      (every-of validName (nameAt (t .facs)) (lp c) (λ f k. nm .provided c f (sym (lp-lists b t g nm c .each f) ∙ k)))
+      (every-of okVersion _ (lv c) (λ v k. and-in _ _ (nm .version c v (sym (lv-lists b t g nm c .each v) ∙ k))
+        (every-of validName (nameAt (t .facs)) (lq c v) (λ f j. nm .required c v f (sym (lq-lists b t g nm c v .each f) ∙ j)))))
+      (nonEmpty-map _ (lv c) (lists-nonEmpty (lv c) _ (lv-lists b t g nm c) _ (g .b1 .std-in c e)))
+      (one-mark (nameAt (t .vers)) _ (standard S c) (lv c) (lv-lists b t g nm c .one) (lv-lists b t g nm c .each (standard S c) ∙ g .b1 .std-in c e)
+        (λ n k z. nm .vers-once n (standard S c) (valid-some _ (nm .version c n (sym (lv-lists b t g nm c .each n) ∙ k))) (same-out _ _ z)))
+
+  abbrev BS : List ℕ → Book
+  BS = bs b g re
+
+  abbrev BM : List ℕ → Book
+  BM = bm b g re
+
+  abbrev BY : List ℕ → Book
+  BY = by b g re
+
+  abbrev specC : ℕ → Command
+  specC c = specK b g re c (lp c) (lv c) (lq c)
+
+  abbrev modC : ℕ → Command
+  modC c = modK b g re c (li c) (im c)
+
+  abbrev sysC : ℕ → Command
+  sysC s = sysK b g re s (lu s) (lk s) (lm s) (mv s)
+
+  numberedSpec : Name × List Name → ℕ × List ℕ
+  numberedSpec x = (number (U .vers) (x .0), map (number (U .facs)) (x .1))
+
+  spec-numbers : (c : ℕ) → specNumbered U (nameAt (t .comps) c) (facilityNames t (provides S c)) (map (λ v. (nameAt (t .vers) v, facilityNames t (requires S c v))) (lv c)) (nameAt (t .vers) (standard S c)) ≡ specC c
+  unfolding specNumbered specK facilityNames numbers new numberedSpec
+  spec-numbers c =
+      let e₁ = map-map (number (U .facs)) (nameAt (t .facs)) (lp c) in
+      let e₂ = map-map numberedSpec (λ v. (nameAt (t .vers) v, map (nameAt (t .facs)) (lq c v))) (lv c) in
+      let e₃ = ap {A = ℕ → ℕ × List ℕ} (λ f. map f (lv c)) (λ i v. (number (U .vers) (nameAt (t .vers) v), map-map (number (U .facs)) (nameAt (t .facs)) (lq c v) i)) in
+      λ i. ADD-SPEC (number (U .comps) (nameAt (t .comps) c)) (e₁ i) ((e₂ ∙ e₃) i) (number (U .vers) (nameAt (t .vers) (standard S c)))
+
+  spec-step : (l : List ℕ) (c : ℕ) → (specified S c ≡ true) × (elem (gc c) l ≡ false) → Step U gc BS (specOf b t) l c
+  unfolding specOf
+  spec-step l c h = record {
+    K = _;
+    writable = spec-writable c (h .0);
+    numbered = nSpec;
+    yes′ = ap (answer (BS l)) (spec-numbers c) ∙ spec-yes b g re c (lp c) (lv c) (lq c) l (h .0) (h .1) (lp-lists b t g nm c) (lv-lists b t g nm c) (lq-lists b t g nm c);
+    gives = ap (after (BS l)) (spec-numbers c) ∙ spec-after b g re c (lp c) (lv c) (lq c) l (h .0) (h .1) (lp-lists b t g nm c) (lv-lists b t g nm c) (lq-lists b t g nm c);
+  }
+
+  -- ---- modules
+
+  mod-writable : (c : ℕ) → isModule M c ≡ true → Writable (modOf b t c)
+  unfolding modOf okMod
+  mod-writable c e = aMod (nm .component c (g .b2 .mod-spec c e))
+      (every-of okMod _ (li c) (λ v k.
+        let j = sym (li-lists b t g nm c .each v) ∙ k in let q = isSome-out _ j in
+        and-in _ _ (nm .version c v (sym (g .b2 .mod-covers c v e) ∙ j)) (ap (λ (n : ℕ). validImplementation (nameAt (t .impls) n)) (or-at _ (q .0) (q .1)) ∙ nm .implemented c v (q .0) (q .1))))
+      (nonEmpty-map _ (li c) (lists-nonEmpty (li c) _ (li-lists b t g nm c) (standard S c) (g .b2 .mod-covers c (standard S c) e ∙ g .b1 .std-in c (g .b2 .mod-spec c e))))
+
+  numberedMod : Name × Name → ℕ × ℕ
+  numberedMod x = (number (U .vers) (x .0), number (U .impls) (x .1))
+
+  mod-numbers : (c : ℕ) → modNumbered U (nameAt (t .comps) c) (map (λ v. (nameAt (t .vers) v, nameAt (t .impls) (im c v))) (li c)) ≡ modC c
+  unfolding modNumbered modK new numberedMod
+  mod-numbers c = ap (ADD-MOD (number (U .comps) (nameAt (t .comps) c))) (map-map numberedMod (λ v. (nameAt (t .vers) v, nameAt (t .impls) (im c v))) (li c))
+
+  mod-step : (l : List ℕ) (c : ℕ) → (isModule M c ≡ true) × (elem (gc c) l ≡ false) → Step U gc BM (modOf b t) l c
+  unfolding modOf
+  mod-step l c h = record {
+    K = _;
+    writable = mod-writable c (h .0);
+    numbered = nMod;
+    yes′ = ap (answer (BM l)) (mod-numbers c) ∙ mod-yes b g re c (li c) (im c) l (h .0) (h .1) (li-lists b t g nm c) (λ v i e. or-at _ i e);
+    gives = ap (after (BM l)) (mod-numbers c) ∙ mod-after b g re c (li c) (im c) l (h .0) (h .1) (li-lists b t g nm c) (λ v i e. or-at _ i e);
+  }
+
+  -- ---- systems
+
+  in-member : (s v c : ℕ) → elem c (lm s v) ≡ true → (w : ℕ) × (member Y s v c ≡ some w)
+  unfolding isMember
+  in-member s v c k = isSome-out (member Y s v c) (sym (lm-lists b t g nm s v .each c) ∙ k)
+
+  a-member : (s v : ℕ) → composed Y s v ≡ true → (c : ℕ) × (isMember Y s v c ≡ true)
+  unfolding B5 B5at
+  a-member s v e = let q = any-out _ _ (and-l _ _ (composition-out Y (B5at S Y) (g .systemLimits) (g .b5) s v e)) in (q .0, q .2)
+
+  a-usable : (s : ℕ) → isSystem Y s ≡ true → (c : ℕ) × (usable Y s c ≡ true)
+  unfolding isMember
+  a-usable s e =
+      let v = standard S s in
+      let k = a-member s v (g .b2 .sys-covers s v e ∙ g .b1 .std-in s (g .b2 .sys-spec s e)) in
+      let q = isSome-out (member Y s v (k .0)) (k .1) in
+      (k .0, mem-usable S Y (g .systemLimits) (g .b5) s v (k .0) (q .0) (q .1) .0)
+
+  sys-writable : (s : ℕ) → isSystem Y s ≡ true → Writable (sysOf b t s)
+  unfolding sysOf okSys okMember membersOf has
+  sys-writable s e = aSys (nm .component s (g .b2 .sys-spec s e))
+      (every-of validName (nameAt (t .comps)) (lu s) (λ c k. nm .component c (g .b2 .use-spec s c (sym (lu-lists b t g nm s .each c) ∙ k))))
+      (let q = a-usable s e in nonEmpty-map _ (lu s) (lists-nonEmpty (lu s) _ (lu-lists b t g nm s) (q .0) (q .1)))
+      (every-of okSys _ (lk s) (λ v k.
+        let j = sym (lk-lists b t g nm s .each v) ∙ k in let a = a-member s v j in
+        and-in _ _ (nm .version s v (sym (g .b2 .sys-covers s v e) ∙ j)) (and-in _ _
+          (nonEmpty-map _ (lm s v) (lists-nonEmpty (lm s v) _ (lm-lists b t g nm s v) (a .0) (a .1)))
+          (every-of okMember _ (lm s v) (λ c w. let q = in-member s v c w in let u = mem-usable S Y (g .systemLimits) (g .b5) s v c (q .0) (q .1) in
+            and-in _ _ (nm .component c (g .b2 .use-spec s c (u .0))) (ap (λ (n : ℕ). validName (nameAt (t .vers) n)) (or-at _ (q .0) (q .1)) ∙ nm .version c (q .0) (u .1)))))))
+      (nonEmpty-map _ (lk s) (lists-nonEmpty (lk s) _ (lk-lists b t g nm s) (standard S s) (g .b2 .sys-covers s (standard S s) e ∙ g .b1 .std-in s (g .b2 .sys-spec s e))))
+
+  numberedMember : Name × Option Name → ℕ × Option ℕ
+  numberedMember m = (number (U .comps) (m .0), optionMap (number (U .vers)) (m .1))
+
+  numberedSys : Name × NamedMembers → ℕ × List (ℕ × Option ℕ)
+  numberedSys x = (number (U .vers) (x .0), numberedMembers U (x .1))
+
+  members-numbers : (s v : ℕ) → numberedMembers U (membersOf b t s v) ≡ sysMembers b g re (lm s) (mv s) v
+  unfolding numberedMembers membersOf sysMembers new numberedMember optionMap
+  members-numbers s v = map-map numberedMember (λ c. (nameAt (t .comps) c, some (nameAt (t .vers) (mv s v c)))) (lm s v)
+
+  sys-numbers : (s : ℕ) → sysNumbered U (nameAt (t .comps) s) (map (nameAt (t .comps)) (lu s)) (map (λ v. (nameAt (t .vers) v, membersOf b t s v)) (lk s)) ≡ sysC s
+  unfolding sysNumbered sysK numbers new numberedSys
+  sys-numbers s =
+      let e₁ = map-map (number (U .comps)) (nameAt (t .comps)) (lu s) in
+      let e₂ = map-map numberedSys (λ v. (nameAt (t .vers) v, membersOf b t s v)) (lk s) in
+      let e₃ = ap {A = ℕ → ℕ × List (ℕ × Option ℕ)} (λ f. map f (lk s)) (λ i v. (number (U .vers) (nameAt (t .vers) v), members-numbers s v i)) in
+      λ i. ADD-SYS (number (U .comps) (nameAt (t .comps) s)) (e₁ i) ((e₂ ∙ e₃) i)
+
+  abbrev CanY : List ℕ → ℕ → Type 0
+  CanY = Can b g (byName (t .comps) components (isSystem Y)) (ys-lists b t g nm) re
+
+  sys-step : (l : List ℕ) (s : ℕ) → CanY l s → Step U gc BY (sysOf b t) l s
+  unfolding sysOf
+  sys-step l s h = record {
+    K = _;
+    writable = sys-writable s (h .is);
+    numbered = nSys;
+    yes′ = ap (answer (BY l)) (sys-numbers s) ∙ sys-yes b g re s (lu s) (lk s) (lm s) (mv s) l (h .is) (h .new) (h .closed) (lu-lists b t g nm s) (lk-lists b t g nm s) (lm-lists b t g nm s) (λ v c w e. or-at _ w e);
+    gives = ap (after (BY l)) (sys-numbers s) ∙ sys-after b g re s (lu s) (lk s) (lm s) (mv s) l (h .is) (h .new) (h .closed) (lu-lists b t g nm s) (lk-lists b t g nm s) (lm-lists b t g nm s) (λ v c w e. or-at _ w e);
+  }
+
+  -- ---- all of it
+
+  abbrev cs : List ℕ
+  cs = byName (t .comps) components (specified S)
+
+  abbrev ms : List ℕ
+  ms = byName (t .comps) components (isModule M)
+
+  abbrev ss : List ℕ
+  ss = systemsFrom components Y (byName (t .comps) components (isSystem Y)) []
+
+  abbrev PS : Specs
+  PS = S′ b g re
+
+  abbrev PM : Modules
+  PM = M′ b g re
+
+  abbrev PY : Systems
+  PY = Y′ b g re
+
+  -- the book that is reached: the same under the new numbers
+  abbrev pub rebuilt : Book
+  rebuilt = record { specs = PS; modules = PM; systems = PY }
+
+  back-in : (test : ℕ → Bool) → ((n : ℕ) → test n ≡ true → specified S n ≡ true) → (l : List ℕ) → ((n : ℕ) → test n ≡ true → elem n l ≡ true) → (m : ℕ) → test (fc m) ≡ true → elem m (pushed gc l []) ≡ true
+  back-in test u l h m e = subst (λ (k : ℕ). elem k (pushed gc l []) ≡ true) (re .ofC .forth m (u _ e)) (pushed-in gc l [] (fc m) (h _ e))
+
+  start : BS [] ≡ empty
+  unfolding bs
+  start = λ i. record { specs = only-none PS i; modules = λ c. none; systems = λ c. none }
+
+  specs-done : BS (pushed gc cs []) ≡ BM []
+  unfolding bs bm
+  specs-done =
+      let e = only-all (pushed gc cs []) PS (λ m k. back-in (specified S) (λ n z. z) cs (λ n z. cs-lists b t g nm .each n ∙ z) m (sym (specified′ b g re m) ∙ (unfold specified in k))) in
+      λ i. record { specs = e i; modules = sym (only-none PM) i; systems = λ c. none }
+
+  modules-done : BM (pushed gc ms []) ≡ BY []
+  unfolding bm by
+  modules-done =
+      let e = only-all (pushed gc ms []) PM (λ m k. back-in (isModule M) (λ n z. g .b2 .mod-spec n z) ms (λ n z. ms-lists b t g nm .each n ∙ z) m (sym (isModule′ b g re m) ∙ (unfold isModule in k))) in
+      λ i. record { specs = PS; modules = e i; systems = sym (only-none PY) i }
+
+  systems-done : BY (pushed gc ss []) ≡ rebuilt
+  unfolding by
+  systems-done =
+      let e = only-all (pushed gc ss []) PY (λ m k. back-in (isSystem Y) (λ n z. g .b2 .sys-spec n z) ss
+            (λ n z. systems-all b g (byName (t .comps) components (isSystem Y)) (ys-lists b t g nm) re n z) m (sym (isSystem′ b g re m) ∙ (unfold isSystem in k))) in
+      λ i. record { specs = PS; modules = PM; systems = e i }
+
+  specs-plan : Plan U empty (map (specOf b t) cs) (BM [])
+  specs-plan = subst (λ (x : Book). Plan U x (map (specOf b t) cs) (BM [])) start (subst (Plan U (BS []) (map (specOf b t) cs)) specs-done
+      (phase U gc BS (specOf b t) _ spec-step (list-fine fc gc components (UsedC S) (re .ofC) (specified S) (λ n e. e) cs [] (cs-lists b t g nm .one)
+        (λ n e. (sym (cs-lists b t g nm .each n) ∙ e, (unfold elem in refl))))))
+
+  modules-plan : Plan U (BM []) (map (modOf b t) ms) (BY [])
+  modules-plan = subst (Plan U (BM []) (map (modOf b t) ms)) modules-done
+      (phase U gc BM (modOf b t) _ mod-step (list-fine fc gc components (UsedC S) (re .ofC) (isModule M) (λ n e. g .b2 .mod-spec n e) ms [] (ms-lists b t g nm .one)
+        (λ n e. (sym (ms-lists b t g nm .each n) ∙ e, (unfold elem in refl)))))
+
+  systems-plan : Plan U (BY []) (map (sysOf b t) ss) rebuilt
+  systems-plan = subst (Plan U (BY []) (map (sysOf b t) ss)) systems-done
+      (phase U gc BY (sysOf b t) CanY sys-step (systems-fine b g (byName (t .comps) components (isSystem Y)) (ys-lists b t g nm) re))
+
+  whole-plan : Plan U empty (asCommands b t) rebuilt
+  unfolding asCommands systemsInOrder
+  whole-plan = plan-append specs-plan (plan-append modules-plan systems-plan)
+
+  -- every command is accepted, and the book under the new numbers is reached
+  pub text-read : session (written b t) ≡ (accepted 1 (length (asCommands b t)), record { book = rebuilt; tables = U })
+  unfolding session written T
+  text-read =
+      let r = plan-runs U (T-fits b t g nm) whole-plan noNames refl in
+      runs-text r _ 1 (runs-length r)

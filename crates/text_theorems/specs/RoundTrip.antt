@@ -1,0 +1,115 @@
+-- Demand 2: a book written as text and read into an empty session is the same book by names.
+use mathlib.Core.Bool.{Bool, true}
+use mathlib.Core.Option.{Option, none, some}
+use mathlib.Core.Path.{_∙_, _≡_, ap, refl, sym}
+use Prim.Native.Nat.{ℕ}
+use lib.ListN.{length}
+use Rattle.model.specs.Book.{Book, Modules, Spec, Specs, Systems, composed, hasVersion, implementation, isModule, isSystem, member}
+use Rattle.model.specs.Book.{provides, specified, standard}
+use Rattle.model.specs.Maps.{has, isSome, optionMap, orElse}
+use Rattle.sets.specs.TestLaws.{==-out, and-cong, and-l, and-r, clash}
+use Rattle.sets.specs.Tests.{_&_, _==_}
+use Rattle.text.specs.Bytes.{Text}
+use Rattle.text.specs.Handed.{Named, PassesNamed}
+use Rattle.text.specs.Language.{Name}
+use Rattle.text.specs.SameByNames.{Composed, Implemented, IsModule, IsSpecified, IsSystem, Member, Provides, Requires, Same}
+use Rattle.text.specs.SameByNames.{Standard, Usable, Version, accepted, at, holds, textOf}
+use Rattle.text.specs.Session.{State, session}
+use Rattle.text.specs.Tables.{Table, Tables, place}
+use Rattle.text.specs.Written.{asCommands}
+use Rattle.text_theorems.specs.Mentions.{T, atC, atF, atI, atV, renumbering}
+use Rattle.text_theorems.specs.NamedGood.{passes→named}
+use Rattle.text_theorems.specs.Places.{eq-through}
+use Rattle.text_theorems.specs.Rebuilt.{rebuilt, text-read}
+use Rattle.text_theorems.specs.Renamed.{Renumbering, has-map, implementationOf, providedBy, requiredBy, versionOf}
+use Rattle.text_theorems.specs.Steps.{S′, composed′, hasVersion′, implementation′, isModule′, isSystem′, member′, provides′}
+use Rattle.text_theorems.specs.Steps.{pullSpec, requires′, specified′, usable′}
+use Rattle.theorems.specs.Frame.{composed-system, mem-usable, member-composed}
+use Rattle.theorems.specs.Good.{Good, requires-version, version-specified}
+use Rattle.theorems.specs.Heights.{usable-system}
+use Rattle.theorems.specs.MapLaws.{andThen-out, has-cong, has-out, isSome-in}
+use contract.Running.{tables}
+
+module _ (b : Book) (t : Tables) (g : Good b) (nm : Named (record { book = b; tables = t })) where
+  abbrev S : Specs
+  S = b .specs
+
+  abbrev M : Modules
+  M = b .modules
+
+  abbrev Y : Systems
+  Y = b .systems
+
+  abbrev re : Renumbering S M
+  re = renumbering b t g nm
+
+  -- what a name's number passes, some number passes
+  at-out : (x : Table) (w : Name) (P : ℕ → Bool) → has (place x w) P ≡ true → (n : ℕ) × (P n ≡ true)
+  at-out x w P e = let q = has-out _ _ e in (q .0, q .2)
+
+  standard-by : (o : Option Spec) → isSome o ≡ true → orElse (optionMap (λ (x : Spec). x .std) (optionMap (pullSpec (re .fv) (re .ff) (re .gv)) o)) 0 ≡ re .gv (orElse (optionMap (λ (x : Spec). x .std) o) 0)
+  unfolding isSome optionMap orElse pullSpec
+  standard-by none e = clash e refl
+  standard-by (some x) e = refl
+
+  standard′ : (c : ℕ) → specified S (re .fc c) ≡ true → standard (S′ b g re) c ≡ re .gv (standard S (re .fc c))
+  unfolding standard S′ specified
+  standard′ c e = standard-by (S (re .fc c)) e
+
+  member-spec : (s v c w : ℕ) → member Y s v c ≡ some w → specified S c ≡ true
+  member-spec s v c w e = g .b2 .use-spec s c (mem-usable S Y (g .systemLimits) (g .b5) s v c w e .0)
+
+  sys-of : (s v : ℕ) → composed Y s v ≡ true → isSystem Y s ≡ true
+  sys-of s v e = composed-system Y s v e
+
+  provides-spec : (c f : ℕ) → provides S c f ≡ true → specified S c ≡ true
+  unfolding provides specified
+  provides-spec c f e = isSome-in _ (has-out _ _ e .1)
+
+  impl-mod : (c v i : ℕ) → implementation M c v ≡ some i → isModule M c ≡ true
+  unfolding implementation isModule
+  impl-mod c v i e = isSome-in _ (andThen-out _ _ i e .1)
+
+  impl-version : (c v i : ℕ) → implementation M c v ≡ some i → hasVersion S c v ≡ true
+  impl-version c v i e = sym (g .b2 .mod-covers c v (impl-mod c v i e)) ∙ isSome-in _ e
+
+  same-facts : Same (record { book = rebuilt b t g nm; tables = T b t g nm }) (record { book = b; tables = t })
+  unfolding holds at
+  same-facts (IsSpecified c) = atC b t g nm c _ _ (specified′ b g re) (λ n e. e)
+  same-facts (IsModule c) = atC b t g nm c _ _ (isModule′ b g re) (λ n e. g .b2 .mod-spec n e)
+  same-facts (IsSystem c) = atC b t g nm c _ _ (isSystem′ b g re) (λ n e. g .b2 .sys-spec n e)
+  same-facts (Provides c f) = atC b t g nm c _ _ (λ m. atF b t g nm f _ _ (provides′ b g re m) (λ n e. providedBy _ e)) (λ n e. let q = at-out _ f _ e in provides-spec n (q .0) (q .1))
+  same-facts (Version c v) = atC b t g nm c _ _ (λ m. atV b t g nm v _ _ (hasVersion′ b g re m) (λ n e. versionOf _ e)) (λ n e. let q = at-out _ v _ e in version-specified S n (q .0) (q .1))
+  same-facts (Standard c v) = atC b t g nm c _ _ (λ m. atV b t g nm v _ _
+      (λ k. ap (λ (x : Bool). x & k == standard (S′ b g re) m) (specified′ b g re m) ∙ and-cong _ (λ e. ap (λ (x : ℕ). k == x) (standard′ m e) ∙ eq-through _ _ _ _ (re .ofV) k _ (versionOf _ (g .b1 .std-in _ e))))
+      (λ n e. versionOf (re .fc m) (ap (hasVersion S (re .fc m)) (==-out _ _ (and-r _ _ e)) ∙ g .b1 .std-in _ (and-l _ _ e))))
+      (λ n e. let q = at-out _ v _ e in and-l _ _ (q .1))
+  same-facts (Usable c d) = atC b t g nm c _ _ (λ m. atC b t g nm d _ _ (usable′ b g re m) (λ n e. g .b2 .use-spec _ n e)) (λ n e. let q = at-out _ d _ e in g .b2 .sys-spec n (usable-system Y n (q .0) (q .1)))
+  same-facts (Composed c v) = atC b t g nm c _ _ (λ m. atV b t g nm v _ _ (composed′ b g re m) (λ n e. versionOf _ (sym (g .b2 .sys-covers _ n (sys-of _ n e)) ∙ e))) (λ n e. let q = at-out _ v _ e in g .b2 .sys-spec n (sys-of n (q .0) (q .1)))
+  same-facts (Requires c v f) = atC b t g nm c _ _
+      (λ m. atV b t g nm v _ _ (λ k. atF b t g nm f _ _ (requires′ b g re m k) (λ n e. requiredBy _ _ e)) (λ n e. let q = at-out _ f _ e in versionOf _ (requires-version S _ n (q .0) (q .1))))
+      (λ n e. let q = at-out _ v _ e in let r = at-out _ f _ (q .1) in version-specified S n (q .0) (requires-version S n (q .0) (r .0) (r .1)))
+  same-facts (Implemented c v i) = atC b t g nm c _ _
+      (λ m. atV b t g nm v _ _
+        (λ k. atI b t g nm i _ _ (λ j. ap (λ (o : Option ℕ). has o (λ z. j == z)) (implementation′ b g re m k) ∙ has-map _ _ _ ∙ has-cong _ (λ z e. eq-through _ _ _ _ (re .ofI) j z (implementationOf _ _ e)))
+          (λ n e. let q = has-out _ _ e in implementationOf _ _ (q .1 ∙ ap some (sym (==-out _ _ (q .2))))))
+        (λ n e. let q = at-out _ i _ e in let r = has-out _ _ (q .1) in versionOf _ (impl-version _ n (r .0) (r .1))))
+      (λ n e. let q = at-out _ v _ e in let p = at-out _ i _ (q .1) in let r = has-out _ _ (p .1) in g .b2 .mod-spec n (impl-mod n (q .0) (r .0) (r .1)))
+  same-facts (Member c v d w) = atC b t g nm c _ _
+      (λ m. atV b t g nm v _ _
+        (λ k. atC b t g nm d _ _
+          (λ j. atV b t g nm w _ _ (λ x. ap (λ (o : Option ℕ). has o (λ z. x == z)) (member′ b g re m k j) ∙ has-map _ _ _ ∙ has-cong _ (λ z e. eq-through _ _ _ _ (re .ofV) x z (versionOf _ (mem-usable S Y (g .systemLimits) (g .b5) _ _ _ z e .1))))
+            (λ n e. let q = has-out _ _ e in versionOf _ (mem-usable S Y (g .systemLimits) (g .b5) _ _ _ n (q .1 ∙ ap some (sym (==-out _ _ (q .2)))) .1)))
+          (λ n e. let q = at-out _ w _ e in let r = has-out _ _ (q .1) in member-spec _ _ n (r .0) (r .1)))
+        (λ n e. let p = at-out _ d _ e in let q = at-out _ w _ (p .1) in let r = has-out _ _ (q .1) in let k = member-composed Y _ n (p .0) (r .0) (r .1) in versionOf _ (sym (g .b2 .sys-covers _ n (sys-of _ n k)) ∙ k)))
+      (λ n e. let o = at-out _ v _ e in let p = at-out _ d _ (o .1) in let q = at-out _ w _ (p .1) in let r = has-out _ _ (q .1) in g .b2 .sys-spec n (sys-of n (o .0) (member-composed Y n (o .0) (p .0) (r .0) (r .1))))
+
+-- "A book written as text and read into an empty session is the same book by names": and each command of the text is accepted.
+pub reads-back : (s : State) → PassesNamed s
+    → (session (textOf s) .0 ≡ accepted 1 (length (asCommands (s .book) (s .tables)))) × Same (session (textOf s) .1) s
+reads-back s q =
+    let h = passes→named q in
+    let e = text-read (s .book) (s .tables) (h .good) (h .named) in (
+      ap (λ (x : Text × State). x .0) e,
+      λ x. ap (λ (y : Text × State). holds (y .1) x) e ∙ same-facts (s .book) (s .tables) (h .good) (h .named) x,
+    )

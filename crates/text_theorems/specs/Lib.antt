@@ -10,3 +10,9 @@ pub mod Order
 pub mod Mentions
 pub mod Rebuilt
 pub mod RoundTrip
+pub mod Unique
+pub mod Tells
+pub mod Handed
+pub mod Enough
+pub mod LentSlice
+pub mod ValidNames

@@ -16,3 +16,5 @@ pub mod Handed
 pub mod Enough
 pub mod LentSlice
 pub mod ValidNames
+pub mod BookNumbers
+pub mod SessionPasses

@@ -58,7 +58,7 @@ entered-impls t (k ∷ ks) = entered-impls (entered t (mentioned k)) ks ∙ sym 
 
 -- ---- lists of lists
 
-every-joined : {A : Type 0} (test : Name → Bool) (sel : A → List Name) (xs : List A) → every (λ x. every test (sel x)) xs ≡ true → every test (joined (map sel xs)) ≡ true
+pub every-joined : {A : Type 0} (test : Name → Bool) (sel : A → List Name) (xs : List A) → every (λ x. every test (sel x)) xs ≡ true → every test (joined (map sel xs)) ≡ true
 unfolding every joined
 every-joined test sel [] e = refl
 every-joined test sel (x ∷ xs) e = every-append test (sel x) _ (and-l _ _ e) (every-joined test sel xs (and-r _ _ e))
@@ -94,11 +94,11 @@ among-names f [] n e = clash e refl
 among-names f (x ∷ xs) n e =
     elim (or-out _ _ e) [ inl q ↦ or-l _ _ (ap (λ (z : ℕ). same (f n) (f z)) (sym (==-out _ _ q)) ∙ same-refl (f n)) | inr q ↦ or-r _ _ (among-names f xs n q) ]
 
-every-cons : {A : Type 0} (test : A → Bool) (x : A) (xs : List A) → test x ≡ true → every test xs ≡ true → every test (x ∷ xs) ≡ true
+pub every-cons : {A : Type 0} (test : A → Bool) (x : A) (xs : List A) → test x ≡ true → every test xs ≡ true → every test (x ∷ xs) ≡ true
 unfolding every
 every-cons test x xs p q = and-in _ _ p q
 
-every-none : {A : Type 0} (test : A → Bool) → every test [] ≡ true
+pub every-none : {A : Type 0} (test : A → Bool) → every test [] ≡ true
 unfolding every
 every-none test = refl
 

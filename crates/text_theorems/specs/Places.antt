@@ -230,7 +230,7 @@ apart-numbers t L [] a k = refl
 apart-numbers t L (x ∷ xs) a k =
     and-in _ _ (not-in _ (fails _ (λ e. clash {A = ⊥} (elem-map t L x xs (and-r _ _ k) (and-l _ _ k) e) (not-out _ (and-l _ _ a))))) (apart-numbers t L xs (and-r _ _ a) (and-r _ _ k))
 
-small-numbers : (t : Table) (L : ℕ) (T : Table) → every (known t L) T ≡ true → every (λ x. x <? L) (map (number t) T) ≡ true
+pub small-numbers : (t : Table) (L : ℕ) (T : Table) → every (known t L) T ≡ true → every (λ x. x <? L) (map (number t) T) ≡ true
 unfolding every known
 small-numbers t L [] k = refl
 small-numbers t L (x ∷ xs) k =

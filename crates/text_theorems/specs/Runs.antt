@@ -88,12 +88,12 @@ runs-text (step {s} {s₁} {s₂} {k} {ks} w e r) (suc n) i h =
 
 -- ---- the numbers of a command stay as the tables grow
 
-every-l : {A : Type 0} (test : A → Bool) (xs ys : List A) → every test (xs ++ ys) ≡ true → every test xs ≡ true
+pub every-l : {A : Type 0} (test : A → Bool) (xs ys : List A) → every test (xs ++ ys) ≡ true → every test xs ≡ true
 unfolding every
 every-l test [] ys e = refl
 every-l test (x ∷ xs) ys e = and-in _ _ (and-l _ _ e) (every-l test xs ys (and-r _ _ e))
 
-every-r : {A : Type 0} (test : A → Bool) (xs ys : List A) → every test (xs ++ ys) ≡ true → every test ys ≡ true
+pub every-r : {A : Type 0} (test : A → Bool) (xs ys : List A) → every test (xs ++ ys) ≡ true → every test ys ≡ true
 unfolding every
 every-r test [] ys e = e
 every-r test (x ∷ xs) ys e = every-r test xs ys (and-r _ _ e)
@@ -117,17 +117,17 @@ pub record Longer (t T : Tables) : Type 0 where
 stays : (t T : Table) → Grown t T → (w : Name) → among w t ≡ true → number t w ≡ number T w
 stays t T l w a = sym (number-longer t (l .more) w a) ∙ ap (λ (z : Table). number z w) (sym (l .is))
 
-inside : Table → List Name → Bool
+unfoldable pub inside : Table → List Name → Bool
 inside t ws = every (λ w. among w t) ws
 
 numbers-stay : (t T : Table) → Grown t T → (ws : List Name) → inside t ws ≡ true → numbers t ws ≡ numbers T ws
 unfolding numbers inside
 numbers-stay t T l ws i = map-every _ _ _ ws i (λ w a. stays t T l w a)
 
-specIn : (tv tf : Table) → Name × List Name → Bool
+unfoldable pub specIn : (tv tf : Table) → Name × List Name → Bool
 specIn tv tf x = among (x .0) tv & inside tf (x .1)
 
-spec-in : (tv tf : Table) (vs : List (Name × List Name)) → inside tv (map (λ x. x .0) vs) ≡ true → inside tf (joined (map (λ x. x .1) vs)) ≡ true → every (specIn tv tf) vs ≡ true
+pub spec-in : (tv tf : Table) (vs : List (Name × List Name)) → inside tv (map (λ x. x .0) vs) ≡ true → inside tf (joined (map (λ x. x .1) vs)) ≡ true → every (specIn tv tf) vs ≡ true
 unfolding every inside specIn joined
 spec-in tv tf [] a b = refl
 spec-in tv tf (x ∷ xs) a b =
@@ -142,10 +142,10 @@ std-among s (x ∷ xs) e =
       | inr q ↦ or-r _ _ (std-among s xs (sym (if-false _ _ _ q) ∙ e))
     ]
 
-modIn : (tv ti : Table) → Name × Name → Bool
+unfoldable pub modIn : (tv ti : Table) → Name × Name → Bool
 modIn tv ti x = among (x .0) tv & among (x .1) ti
 
-mod-in : (tv ti : Table) (is : List (Name × Name)) → inside tv (map (λ x. x .0) is) ≡ true → inside ti (map (λ x. x .1) is) ≡ true → every (modIn tv ti) is ≡ true
+pub mod-in : (tv ti : Table) (is : List (Name × Name)) → inside tv (map (λ x. x .0) is) ≡ true → inside ti (map (λ x. x .1) is) ≡ true → every (modIn tv ti) is ≡ true
 unfolding every inside modIn
 mod-in tv ti [] a b = refl
 mod-in tv ti (x ∷ xs) a b = and-in _ _ (and-in _ _ (and-l _ _ a) (and-l _ _ b)) (mod-in tv ti xs (and-r _ _ a) (and-r _ _ b))
@@ -192,19 +192,19 @@ adds s names T f K l h e a =
     ∙ ap (λ (n : ℕ). decided n (record { book = after (s .book) K; tables = entered (s .tables) names })) a
 
 -- the names that a command mentions have places after it
-names-in : (t : Table) (ws : List Name) → inside (enter t ws) ws ≡ true
+pub names-in : (t : Table) (ws : List Name) → inside (enter t ws) ws ≡ true
 unfolding inside
 names-in t ws = enter-has t ws
 
-in-head : (t : Table) (w : Name) (ws : List Name) → inside t (w ∷ ws) ≡ true → among w t ≡ true
+pub in-head : (t : Table) (w : Name) (ws : List Name) → inside t (w ∷ ws) ≡ true → among w t ≡ true
 unfolding inside every
 in-head t w ws h = and-l _ _ h
 
-in-l : (t : Table) (xs ys : List Name) → inside t (xs ++ ys) ≡ true → inside t xs ≡ true
+pub in-l : (t : Table) (xs ys : List Name) → inside t (xs ++ ys) ≡ true → inside t xs ≡ true
 unfolding inside
 in-l t xs ys h = every-l _ xs ys h
 
-in-r : (t : Table) (xs ys : List Name) → inside t (xs ++ ys) ≡ true → inside t ys ≡ true
+pub in-r : (t : Table) (xs ys : List Name) → inside t (xs ++ ys) ≡ true → inside t ys ≡ true
 unfolding inside
 in-r t xs ys h = every-r _ xs ys h
 

@@ -41,7 +41,7 @@ NextOk (token (mark c) u) = Unit {0}
 NextOk end = Unit {0}
 NextOk bad = Unit {0}
 
-by-test : {A : Type 0} (Q : A → Type 0) (b : Bool) (x y : A) → (b ≡ true → Q x) → Q y → Q (if b then x else y)
+pub by-test : {A : Type 0} (Q : A → Type 0) (b : Bool) (x y : A) → (b ≡ true → Q x) → Q y → Q (if b then x else y)
 unfolding if_then_else_
 by-test Q true x y p q = p refl
 by-test Q false x y p q = q

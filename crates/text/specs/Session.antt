@@ -132,7 +132,7 @@ unfoldable pub digits : ℕ → ℕ → Text
 digits zero n = []
 digits (suc k) n = let more = digits k (n / 10) ++ ((48 + n % 10) ∷ []) in if n <? 10 then (48 + n) ∷ [] else more
 
--- A number has no more digits than it counts, and 0 has one, so the bound bounds nothing (`digits-step`).
+-- A number has no more digits than it counts, and 0 has one, so the bound bounds nothing (`decimal-step`).
 unfoldable pub decimal : ℕ → Text
 decimal n = digits (suc n) n
 

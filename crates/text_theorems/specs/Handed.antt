@@ -2,11 +2,10 @@
 -- The question for 25 on the tables that a text call takes, as a test that computes; and that demand 2 speaks of something.
 use mathlib.Core.Bool.{true}
 use mathlib.Core.List.{[], _∷_}
-use mathlib.Core.Option.{some}
 use mathlib.Core.Path.{_∙_, _≡_, ap, refl, subst, sym}
 use Prim.Native.Nat.{suc, zero, ℕ}
 use native.Mathlib.Omega.{arith}
-use Rattle.model.specs.Book.{hasVersion, implementation, isModule, provides, specified}
+use Rattle.model.specs.Book.{hasVersion, specified}
 use Rattle.model.specs.Lists.{nonEmpty}
 use Rattle.model.specs.Teaching.{K, input}
 use Rattle.sets.specs.TestLaws.{all-in, all-out, and-in, and-l, and-r, clash, fails, imp-in, imp-out, not-in, not-out}
@@ -16,9 +15,10 @@ use Rattle.text.specs.Handed.{Named, Once, PassesNamed, componentNamed, namesHo
 use Rattle.text.specs.Language.{Name}
 use Rattle.text.specs.Session.{State}
 use Rattle.text.specs.Tables.{Table, nameAt}
+use Rattle.text_theorems.specs.BookLaws.{implementation-module, provides-specified}
 use Rattle.text_theorems.specs.Places.{name-among, place-name, place-there}
 use Rattle.theorems.specs.Good.{Good, passes→good, requires-version, version-specified}
-use Rattle.theorems.specs.MapLaws.{andThen-out, has-out, if-there-in, if-there-out, isSome-in, isSome-out}
+use Rattle.theorems.specs.MapLaws.{if-there-in, if-there-out, isSome-in, isSome-out}
 use Rattle.theorems.specs.Sequence.{always-passes}
 use contract.Running.{tables}
 
@@ -37,9 +37,9 @@ unfolding namesHold componentNamed versionNamed
 names-hold s g h = record {
   component = λ c e. and-l _ _ (at c e);
   version = λ c v e. and-l _ _ (ver c v e);
-  provided = λ c f e. imp-out _ _ (all-out _ _ (and-l _ _ (and-r _ _ (at c (prov c f e)))) f (g .specLimits .provided< c f e)) e;
+  provided = λ c f e. imp-out _ _ (all-out _ _ (and-l _ _ (and-r _ _ (at c (provides-specified _ c f e)))) f (g .specLimits .provided< c f e)) e;
   required = λ c v f e. imp-out _ _ (all-out _ _ (and-l _ _ (and-r _ _ (ver c v (requires-version _ c v f e)))) f (g .specLimits .required< c v f e)) e;
-  implemented = λ c v i e. if-there-out _ _ (and-r _ _ (and-r _ _ (ver c v (sym (g .b2 .mod-covers c v (mod′ c v i e)) ∙ isSome-in _ e)))) i e;
+  implemented = λ c v i e. if-there-out _ _ (and-r _ _ (and-r _ _ (ver c v (sym (g .b2 .mod-covers c v (implementation-module _ c v i e)) ∙ isSome-in _ e)))) i e;
   comps-once = none-twice _ (and-l _ _ (and-r _ _ h));
   vers-once = none-twice _ (and-l _ _ (and-r _ _ (and-r _ _ h)));
   facs-once = none-twice _ (and-l _ _ (and-r _ _ (and-r _ _ (and-r _ _ h))));
@@ -50,10 +50,6 @@ names-hold s g h = record {
     at c e = imp-out _ _ (all-out _ _ (and-l _ _ h) c (g .specLimits .component< c e)) e
     ver : (c v : ℕ) → hasVersion (s .book .specs) c v ≡ true → versionNamed s c v ≡ true
     ver c v e = imp-out _ _ (all-out _ _ (and-r _ _ (and-r _ _ (at c (version-specified _ c v e)))) v (g .specLimits .version< c v e)) e
-    prov : (c f : ℕ) → provides (s .book .specs) c f ≡ true → specified (s .book .specs) c ≡ true
-    prov c f e = unfold provides specified in isSome-in _ (has-out _ _ e .1)
-    mod′ : (c v i : ℕ) → implementation (s .book .modules) c v ≡ some i → isModule (s .book .modules) c ≡ true
-    mod′ c v i e = unfold implementation isModule in isSome-in _ (andThen-out _ _ i e .1)
 
 -- ---- and back
 

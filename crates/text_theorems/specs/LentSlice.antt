@@ -21,8 +21,8 @@ use Rattle.text.specs.Written.{asCommands, byName, modOf, specOf, sysOf, system
 use Rattle.text_theorems.specs.Listed.{lists-length}
 use Rattle.text_theorems.specs.Mentions.{cs-lists, ms-lists}
 use Rattle.text_theorems.specs.NamedGood.{NamedGood, passes→named}
-use Rattle.text_theorems.specs.Places.{length-map}
 use Rattle.text_theorems.specs.RoundTrip.{reads-back}
+use Rattle.text_theorems.specs.TextLaws.{length-map}
 
 -- ---- the rows of a book that is read back
 

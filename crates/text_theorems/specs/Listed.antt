@@ -1,10 +1,10 @@
 -- The numbers that pass a test, in order of their names; and their new numbers.
 use mathlib.Core.Bool.{Bool, false, true}
 use mathlib.Core.List.{List, [], _∷_, map}
-use mathlib.Core.Logic.{_⊎_, inl, inr}
+use mathlib.Core.Logic.{inl, inr}
 use mathlib.Core.Option.{none, some}
 use mathlib.Core.Path.{_∙_, _≡_, ap, refl, subst, sym}
-use Prim.Native.Nat.{_+_, _<_, _≤_, suc, zero, zero-le, ℕ}
+use Prim.Native.Nat.{_<_, _≤_, suc, zero, ℕ}
 use native.Mathlib.Nat.{le-trans}
 use native.Mathlib.Omega.{arith}
 use lib.ListN.{length}
@@ -16,60 +16,45 @@ use Rattle.text.specs.Tables.{Table, nameAt}
 use Rattle.text.specs.Written.{before, byName, insert, sorted}
 use Rattle.text_theorems.specs.Places.{once-count}
 use Rattle.text_theorems.specs.Renamed.{Renaming}
-use Rattle.theorems.specs.ListLaws.{beside-elem}
+use Rattle.theorems.specs.ListLaws.{beside-elem, rising-elem}
 use Rattle.theorems.specs.MapLaws.{isSome-no}
 
-keep-out : (b : Bool) (n x : ℕ) (xs : List ℕ) → elem n (keep b x xs) ≡ true → ((b ≡ true) × (n ≡ x)) ⊎ (elem n xs ≡ true)
-unfolding keep elem
-keep-out true n x xs e = elim (or-out _ _ e) [ inl q ↦ inl (refl, ==-out _ _ q) | inr q ↦ inr q ]
-keep-out false n x xs e = inr e
-
-keep-in : (b : Bool) (n x : ℕ) (xs : List ℕ) → elem n xs ≡ true → elem n (keep b x xs) ≡ true
-unfolding keep elem
-keep-in true n x xs e = or-r _ _ e
-keep-in false n x xs e = e
-
-keep-here : (b : Bool) (x : ℕ) (xs : List ℕ) → b ≡ true → elem x (keep b x xs) ≡ true
-unfolding keep elem
-keep-here true x xs e = or-l _ _ (==-same x)
-keep-here false x xs e = clash e refl
-
-from-out : (k i : ℕ) (test : ℕ → Bool) (n : ℕ) → elem n (from k i test) ≡ true → (i ≤ n) × (n < i + k) × (test n ≡ true)
+from-low : (k i n : ℕ) (test : ℕ → Bool) → elem n (from k i test) ≡ true → i ≤ n
 unfolding from
-from-out zero i test n e = clash e (unfold elem in refl)
-from-out (suc k) i test n e =
-    elim (keep-out (test i) n i _ e) [
-      | inl q ↦ (let z = q .1 in (omega arith, omega arith, ap test z ∙ q .0))
-      | inr q ↦ (let r = from-out k (suc i) test n q in let a = r .0 in let b = r .1 in (omega arith, omega arith, r .2))
+from-low zero i n test e = clash e (unfold elem in refl)
+from-low (suc k) i n test e = kept (test i) (λ q. let l = from-low k (suc i) n test q in omega arith) e
+  where
+    kept : (b : Bool) → (elem n (from k (suc i) test) ≡ true → i ≤ n) → elem n (keep b i (from k (suc i) test)) ≡ true → i ≤ n
+    kept true h e = unfold keep elem in elim (or-out (n == i) (elem n (from k (suc i) test)) e) [
+      | inl q ↦ (let z = ==-out _ _ q in omega arith)
+      | inr q ↦ h q
     ]
-
-from-in : (k i : ℕ) (test : ℕ → Bool) (n : ℕ) → i ≤ n → n < i + k → test n ≡ true → elem n (from k i test) ≡ true
-unfolding from
-from-in zero i test n a b t = absurd (omega arith)
-from-in (suc k) i test n a b t =
-    elim (same? n i) [
-      | inl e ↦ subst (λ (z : ℕ). elem z (keep (test i) i (from k (suc i) test)) ≡ true) (sym e) (keep-here (test i) i _ (ap test (sym e) ∙ t))
-      | inr ne ↦ keep-in (test i) n i _ (from-in k (suc i) test n (omega arith) (omega arith) t)
-    ]
+    kept false h e = unfold keep in h e
 
 keep-once : (b : Bool) (i : ℕ) (l : List ℕ) → elem i l ≡ false → once l ≡ true → once (keep b i l) ≡ true
 unfolding keep once
 keep-once true i l e o = and-in _ _ (not-in _ e) o
 keep-once false i l e o = o
 
-pub from-once : (k i : ℕ) (test : ℕ → Bool) → once (from k i test) ≡ true
+from-once : (k i : ℕ) (test : ℕ → Bool) → once (from k i test) ≡ true
 unfolding from
 from-once zero i test = unfold once in refl
-from-once (suc k) i test = keep-once (test i) i _ (fails _ (λ e. let q = from-out k (suc i) test i e in let a = q .0 in omega arith)) (from-once k (suc i) test)
+from-once (suc k) i test =
+    keep-once (test i) i _ (fails _ (λ e. let l = from-low k (suc i) i test e in omega arith)) (from-once k (suc i) test)
+
+-- numbers in rising order stand once
+pub rising-once : (k : ℕ) (test : ℕ → Bool) → once (rising k test) ≡ true
+unfolding rising
+rising-once k test = from-once k 0 test
 
 -- ---- sorted
 
-or-swap : (a b c : Bool) → (a or (b or c)) ≡ (b or (a or c))
+or-third : (a b c : Bool) → (a or (b or c)) ≡ (b or (a or c))
 unfolding _or_
-or-swap true true c = refl
-or-swap true false c = refl
-or-swap false true c = refl
-or-swap false false c = refl
+or-third true true c = refl
+or-third true false c = refl
+or-third false true c = refl
+or-third false false c = refl
 
 pub insert-elem : (t : Table) (m n : ℕ) (l : List ℕ) → elem n (insert t m l) ≡ (n == m or elem n l)
 unfolding insert elem
@@ -77,7 +62,7 @@ insert-elem t m n [] = refl
 insert-elem t m n (x ∷ xs) =
     elim (bool? (before (nameAt t m) (nameAt t x))) [
       | inl q ↦ ap (elem n) (if-true _ _ _ q)
-      | inr q ↦ ap (elem n) (if-false _ _ _ q) ∙ ap (λ (z : Bool). n == x or z) (insert-elem t m n xs) ∙ or-swap (n == x) (n == m) (elem n xs)
+      | inr q ↦ ap (elem n) (if-false _ _ _ q) ∙ ap (λ (z : Bool). n == x or z) (insert-elem t m n xs) ∙ or-third (n == x) (n == m) (elem n xs)
     ]
 
 pub sorted-elem : (t : Table) (n : ℕ) (l : List ℕ) → elem n (sorted t l) ≡ elem n l
@@ -107,10 +92,10 @@ pub record Lists (l : List ℕ) (test : ℕ → Bool) : Type 0 where
   pub one : once l ≡ true
 
 pub byName-lists : (t : Table) (L : ℕ) (test : ℕ → Bool) → ((n : ℕ) → test n ≡ true → n < L) → Lists (byName t L test) test
-unfolding byName rising
+unfolding byName
 byName-lists t L test h = record {
-  each = λ n. sorted-elem t n _ ∙ iff→≡ _ _ (λ e. from-out L 0 test n e .2) (λ e. from-in L 0 test n zero-le (let k = h n e in omega arith) e);
-  one = sorted-once t _ (from-once L 0 test);
+  each = λ n. sorted-elem t n _ ∙ iff→≡ _ _ (λ e. rising-elem L n test .0 e .1) (λ e. rising-elem L n test .1 (h n e, e));
+  one = sorted-once t _ (rising-once L test);
 }
 
 pub lists-nonEmpty : (l : List ℕ) (test : ℕ → Bool) → Lists l test → (n : ℕ) → test n ≡ true → nonEmpty l ≡ true

@@ -9,24 +9,28 @@ use Rattle.model.specs.Book.{Book, Modules, Specs, Systems, components, compose
 use Rattle.model.specs.Book.{implementations, isMember, isModule, isSystem, member, provides, requires, specified, usable, versions}
 use Rattle.model.specs.Lists.{elem, every, nonEmpty}
 use Rattle.model.specs.Maps.{has, isSome, orElse}
-use Rattle.sets.specs.TestLaws.{<?-in, ==-out, and-in, and-l, and-r, clash, or-l, or-out, or-r, ≤?-in}
-use Rattle.text.specs.Bytes.{Text, among, same, short, validImplementation, validName}
+use Rattle.sets.specs.TestLaws.{<?-in, ==-out, and-in, and-l, clash, or-l, or-out, ≤?-in}
+use Rattle.text.specs.Bytes.{Text, among, short, validImplementation, validName}
 use Rattle.text.specs.Handed.{Named}
 use Rattle.text.specs.Language.{Name, NamedMembers, Said}
 use Rattle.text.specs.Tables.{Table, Tables, enter, entered, fits, given, joined, memberNames, memberVersions, modNames, nameAt}
 use Rattle.text.specs.Tables.{noNames, place, specNames, sysNames}
 use Rattle.text.specs.Written.{asCommands, byName, facilityNames, membersOf, modOf, specOf, sysOf, systemsInOrder}
+use Rattle.text_theorems.specs.BookLaws.{implementation-module, provides-specified}
 use Rattle.text_theorems.specs.Listed.{Lists, byName-lists, every-of}
+use Rattle.text_theorems.specs.NewPlaces.{at-through, new, old, renaming}
+use Rattle.text_theorems.specs.Numbered.{mentioned}
 use Rattle.text_theorems.specs.Order.{systems-are}
-use Rattle.text_theorems.specs.Places.{among-l, among-out, among-r, apart, at-through, enter-apart, enter-every, enter-has}
-use Rattle.text_theorems.specs.Places.{every-among, every-append, known, known-fits, new, old, place-of, renaming}
-use Rattle.text_theorems.specs.ReadsBack.{same-refl}
+use Rattle.text_theorems.specs.Places.{among-l, among-out, among-r, apart, enter-apart, enter-every, enter-has, known}
+use Rattle.text_theorems.specs.Places.{known-fits, place-of}
 use Rattle.text_theorems.specs.Renamed.{Renaming, Renumbering, UsedC, UsedF, UsedI, UsedV, implementationOf, providedBy}
 use Rattle.text_theorems.specs.Renamed.{requiredBy, versionOf}
-use Rattle.text_theorems.specs.Runs.{allEntered, mentioned}
+use Rattle.text_theorems.specs.Runs.{allEntered}
+use Rattle.text_theorems.specs.TextLaws.{among-names-in, every-among, every-append, every-cons, every-joined, every-none}
+use Rattle.text_theorems.specs.TextLaws.{same-refl}
 use Rattle.theorems.specs.Frame.{mem-usable}
 use Rattle.theorems.specs.Good.{Good, requires-version, version-specified}
-use Rattle.theorems.specs.MapLaws.{andThen-out, has-in, has-out, isSome-in, isSome-out}
+use Rattle.theorems.specs.MapLaws.{has-in, isSome-in, isSome-out}
 use contract.Running.{tables}
 
 -- ---- the tables that are reached, as names put in
@@ -58,11 +62,6 @@ entered-impls t (k ∷ ks) = entered-impls (entered t (mentioned k)) ks ∙ sym 
 
 -- ---- lists of lists
 
-pub every-joined : {A : Type 0} (test : Name → Bool) (sel : A → List Name) (xs : List A) → every (λ x. every test (sel x)) xs ≡ true → every test (joined (map sel xs)) ≡ true
-unfolding every joined
-every-joined test sel [] e = refl
-every-joined test sel (x ∷ xs) e = every-append test (sel x) _ (and-l _ _ e) (every-joined test sel xs (and-r _ _ e))
-
 among-seg1 : (w : Name) (sel : Said → List Name) (xs ys : List Said) → among w (joined (map sel xs)) ≡ true → among w (joined (map sel (xs ++ ys))) ≡ true
 unfolding joined among
 among-seg1 w sel [] ys a = clash a refl
@@ -83,24 +82,7 @@ among-of w sel h (x ∷ xs) n e a =
     ]
 
 among-map : {A : Type 0} (f : A → Name) (h : ℕ → A) (l : List ℕ) (n : ℕ) → elem n l ≡ true → among (f (h n)) (map f (map h l)) ≡ true
-unfolding elem among
-among-map f h [] n e = clash e refl
-among-map f h (x ∷ xs) n e =
-    elim (or-out _ _ e) [ inl q ↦ or-l _ _ (ap (λ (z : ℕ). same (f (h n)) (f (h z))) (sym (==-out _ _ q)) ∙ same-refl (f (h n))) | inr q ↦ or-r _ _ (among-map f h xs n q) ]
-
-among-names : (f : ℕ → Name) (l : List ℕ) (n : ℕ) → elem n l ≡ true → among (f n) (map f l) ≡ true
-unfolding elem among
-among-names f [] n e = clash e refl
-among-names f (x ∷ xs) n e =
-    elim (or-out _ _ e) [ inl q ↦ or-l _ _ (ap (λ (z : ℕ). same (f n) (f z)) (sym (==-out _ _ q)) ∙ same-refl (f n)) | inr q ↦ or-r _ _ (among-names f xs n q) ]
-
-pub every-cons : {A : Type 0} (test : A → Bool) (x : A) (xs : List A) → test x ≡ true → every test xs ≡ true → every test (x ∷ xs) ≡ true
-unfolding every
-every-cons test x xs p q = and-in _ _ p q
-
-pub every-none : {A : Type 0} (test : A → Bool) → every test [] ≡ true
-unfolding every
-every-none test = refl
+among-map f h l n e = ap (among (f (h n))) (map-map f h l) ∙ among-names-in (λ n. f (h n)) l n e
 
 every-firsts : {A : Type 0} (test : Name → Bool) (f : ℕ → Name) (h : ℕ → A) (l : List ℕ) → ((n : ℕ) → elem n l ≡ true → test (f n) ≡ true) → every test (map (λ (x : Name × A). x .0) (map (λ v. (f v, h v)) l)) ≡ true
 every-firsts test f h l k = ap (every test) (map-map _ _ l) ∙ every-of test f l k
@@ -346,21 +328,21 @@ module _ (b : Book) (t : Tables) (g : Good b) (nm : Named (record { book = b; ta
   hasP c f e k = into _ _ _ (entered-facs noNames _) (mention-spec (λ m. m .facs) _ c k here)
     where
       here : among (nameAt (t .facs) f) (mentioned (specOf b t c) .facs) ≡ true
-      here = unfold mentioned specOf specNames in among-l _ (facilityNames t (provides S c)) _ (unfold facilityNames in among-names (nameAt (t .facs)) (byName (t .facs) facilities (provides S c)) f (lp-lists c .each f ∙ e))
+      here = unfold mentioned specOf specNames in among-l _ (facilityNames t (provides S c)) _ (unfold facilityNames in among-names-in (nameAt (t .facs)) (byName (t .facs) facilities (provides S c)) f (lp-lists c .each f ∙ e))
 
   hasQ : (c v f : ℕ) → requires S c v f ≡ true → hasVersion S c v ≡ true → among (nameAt (t .facs) f) (T .facs) ≡ true
   unfolding T
   hasQ c v f e k = into _ _ _ (entered-facs noNames _) (mention-spec (λ m. m .facs) _ c (version-specified S c v k) here)
     where
       inner : among (nameAt (t .facs) f) (facilityNames t (requires S c v)) ≡ true
-      inner = unfold facilityNames in among-names (nameAt (t .facs)) (byName (t .facs) facilities (requires S c v)) f (lq-lists c v .each f ∙ e)
+      inner = unfold facilityNames in among-names-in (nameAt (t .facs)) (byName (t .facs) facilities (requires S c v)) f (lq-lists c v .each f ∙ e)
       here : among (nameAt (t .facs) f) (mentioned (specOf b t c) .facs) ≡ true
       here = unfold mentioned specOf specNames in among-r _ (facilityNames t (provides S c)) _
           (among-of _ (λ (x : Name × List Name). x .1) (λ v. (nameAt (t .vers) v, facilityNames t (requires S c v))) (byName (t .vers) versions (hasVersion S c)) v (lv-lists c .each v ∙ k) inner)
 
   hasI : (c v i : ℕ) → implementation M c v ≡ some i → among (nameAt (t .impls) i) (T .impls) ≡ true
   unfolding T
-  hasI c v i e = into _ _ _ (entered-impls noNames _) (mention-mod (λ m. m .impls) _ c (unfold implementation isModule in isSome-in _ (andThen-out _ _ i e .1)) here)
+  hasI c v i e = into _ _ _ (entered-impls noNames _) (mention-mod (λ m. m .impls) _ c (implementation-module M c v i e) here)
     where
       h : ℕ → Name
       h v = nameAt (t .impls) (orElse (implementation M c v) 0)
@@ -406,12 +388,8 @@ module _ (b : Book) (t : Tables) (g : Good b) (nm : Named (record { book = b; ta
   pub reV : Renaming fv gv versions (UsedV S)
   reV = renaming (t .vers) (T .vers) versions (UsedV S) (nm .vers-once) vers-apart (known-fits (t .vers) versions (T .vers) vers-apart vers-known) usedV
 
-  provides-specified : (c f : ℕ) → provides S c f ≡ true → specified S c ≡ true
-  unfolding provides specified
-  provides-specified c f e = isSome-in _ (has-out _ _ e .1)
-
   usedF : (f : ℕ) → UsedF S f → (f < facilities) × (nonEmpty (nameAt (t .facs) f) ≡ true) × (among (nameAt (t .facs) f) (T .facs) ≡ true)
-  usedF f (providedBy c e) = (g .specLimits .provided< c f e, valid-some _ (nm .provided c f e), hasP c f e (provides-specified c f e))
+  usedF f (providedBy c e) = (g .specLimits .provided< c f e, valid-some _ (nm .provided c f e), hasP c f e (provides-specified S c f e))
   usedF f (requiredBy c v e) = (g .specLimits .required< c v f e, valid-some _ (nm .required c v f e), hasQ c v f e (requires-version S c v f e))
 
   pub reF : Renaming ff gf facilities (UsedF S)

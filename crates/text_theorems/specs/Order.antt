@@ -15,7 +15,7 @@ use Rattle.sets.specs.TestLaws.{fails, if-false, if-true, imp-no, imp-out, not-
 use Rattle.sets.specs.Tests.{_&_, _==_, count, ~_}
 use Rattle.text.specs.Written.{firstOf, ready, systemsFrom}
 use Rattle.text_theorems.specs.Listed.{Lists, elem-map-in, elem-map-out}
-use Rattle.text_theorems.specs.Places.{new}
+use Rattle.text_theorems.specs.NewPlaces.{new}
 use Rattle.text_theorems.specs.Renamed.{Renumbering}
 use Rattle.theorems.specs.Good.{Good}
 use Rattle.theorems.specs.Heights.{falls}
@@ -41,6 +41,15 @@ first-some test (x ∷ xs) n e =
       | inr q ↦ (let r = first-some test xs n (sym (if-false _ _ _ q) ∙ e) in (or-r _ _ (r .0), r .1))
     ]
 
+-- the next system, or none
+pub from-none : (n : ℕ) (Y : Systems) (ss out : List ℕ) → firstOf (λ s. ~ (elem s out) & ready Y out s) ss ≡ none → systemsFrom (suc n) Y ss out ≡ []
+unfolding systemsFrom ifFound
+from-none n Y ss out e = ap (λ (o : Option ℕ). ifFound o (λ s. s ∷ systemsFrom n Y ss (s ∷ out))) e
+
+pub from-some : (n : ℕ) (Y : Systems) (ss out : List ℕ) (x : ℕ) → firstOf (λ s. ~ (elem s out) & ready Y out s) ss ≡ some x → systemsFrom (suc n) Y ss out ≡ x ∷ systemsFrom n Y ss (x ∷ out)
+unfolding systemsFrom ifFound
+from-some n Y ss out x e = ap (λ (o : Option ℕ). ifFound o (λ s. s ∷ systemsFrom n Y ss (s ∷ out))) e
+
 -- numbers that go in one after the other: each can, with those before it in
 pub data Fine (gc : ℕ → ℕ) (Can : List ℕ → ℕ → Type 0) : List ℕ → List ℕ → Type 0 where
   none-left : {l : List ℕ} → Fine gc Can l []
@@ -50,7 +59,7 @@ module _ (b : Book) (g : Good b) (ss : List ℕ) (ks : Lists ss (isSystem (b .sy
   abbrev Y : Systems
   Y = b .systems
 
-  test : List ℕ → ℕ → Bool
+  abbrev test : List ℕ → ℕ → Bool
   test out s = ~ (elem s out) & ready Y out s
 
   ready-in : (out : List ℕ) (s c : ℕ) → ready Y out s ≡ true → usable Y s c ≡ true → isSystem Y c ≡ true → elem c out ≡ true
@@ -59,7 +68,7 @@ module _ (b : Book) (g : Good b) (ss : List ℕ) (ks : Lists ss (isSystem (b .sy
 
   -- of the systems that are not out, one has its usable systems out
   lowest : (h : ℕ) (out : List ℕ) (s : ℕ) → systemsBelow Y s ≤ h → isSystem Y s ≡ true → elem s out ≡ false → (x : ℕ) × (isSystem Y x ≡ true) × (test out x ≡ true)
-  unfolding test ready
+  unfolding ready
   lowest zero out s le k e =
       elim (bool? (ready Y out s)) [
         | inl r ↦ (s, k, and-in _ _ (not-in _ e) r)
@@ -85,39 +94,29 @@ module _ (b : Book) (g : Good b) (ss : List ℕ) (ks : Lists ss (isSystem (b .sy
   left-some out x k e = let h = left-falls out x k e in omega arith
 
   -- the next system to be written
-  pub next : List ℕ → Option ℕ
-  next out = firstOf (test out) ss
+  abbrev nextSystem : List ℕ → Option ℕ
+  nextSystem out = firstOf (test out) ss
 
-  next-some : (out : List ℕ) (x : ℕ) → next out ≡ some x → (isSystem Y x ≡ true) × (elem x out ≡ false) × (ready Y out x ≡ true)
-  unfolding next test
+  next-some : (out : List ℕ) (x : ℕ) → nextSystem out ≡ some x → (isSystem Y x ≡ true) × (elem x out ≡ false) × (ready Y out x ≡ true)
   next-some out x e = let q = first-some (test out) ss x e in (sym (ks .each x) ∙ q .0, not-out _ (and-l _ _ (q .1)), and-r _ _ (q .1))
 
   -- without one, every system is out
-  next-none : (out : List ℕ) → next out ≡ none → (s : ℕ) → isSystem Y s ≡ true → elem s out ≡ true
-  unfolding next
+  next-none : (out : List ℕ) → nextSystem out ≡ none → (s : ℕ) → isSystem Y s ≡ true → elem s out ≡ true
   next-none out e s k =
       elim (bool? (elem s out)) [
         | inl q ↦ q
         | inr q ↦ (let r = lowest (systemsBelow Y s) out s (le-refl _) k q in clash (r .2) (first-none (test out) ss e (r .0) (ks .each (r .0) ∙ r .1)))
       ]
 
-  from-none : (n : ℕ) (out : List ℕ) → next out ≡ none → systemsFrom (suc n) Y ss out ≡ []
-  unfolding systemsFrom ifFound next test
-  from-none n out e = ap (λ (o : Option ℕ). ifFound o (λ s. s ∷ systemsFrom n Y ss (s ∷ out))) e
-
-  from-some : (n : ℕ) (out : List ℕ) (x : ℕ) → next out ≡ some x → systemsFrom (suc n) Y ss out ≡ x ∷ systemsFrom n Y ss (x ∷ out)
-  unfolding systemsFrom ifFound next test
-  from-some n out x e = ap (λ (o : Option ℕ). ifFound o (λ s. s ∷ systemsFrom n Y ss (s ∷ out))) e
-
   -- all of them are written
   all-written : (n : ℕ) (out : List ℕ) → left out ≤ n → (s : ℕ) → isSystem Y s ≡ true → elem s out ≡ false → elem s (systemsFrom n Y ss out) ≡ true
   unfolding elem
   all-written zero out h s k e = absurd (let z = left-some out s k e in omega arith)
   all-written (suc n) out h s k e =
-      elim (option? (next out)) [
+      elim (option? (nextSystem out)) [
         | inl z ↦ clash (next-none out z s k) e
         | inr q ↦ (let x = q .0 in let r = next-some out x (q .1) in
-            ap (elem s) (from-some n out x (q .1)) ∙ elim (bool? (s == x)) [
+            ap (elem s) (from-some n Y ss out x (q .1)) ∙ elim (bool? (s == x)) [
               | inl w ↦ or-l _ _ w
               | inr w ↦ or-r _ _ (all-written n (x ∷ out) (let f = left-falls out x (r .0) (r .1) in omega arith) s k (fails _ (λ t. elim (or-out (s == x) (elem s out) t) [ inl a ↦ clash {A = ⊥} a w | inr a ↦ clash {A = ⊥} a e ])))
             ])
@@ -127,9 +126,9 @@ module _ (b : Book) (g : Good b) (ss : List ℕ) (ks : Lists ss (isSystem (b .sy
   unfolding elem
   systems-are zero out x e = clash e (unfold systemsFrom elem in refl)
   systems-are (suc n) out x e =
-      elim (option? (next out)) [
-        | inl z ↦ clash (ap (elem x) (sym (from-none n out z)) ∙ e) refl
-        | inr q ↦ elim (or-out _ _ (ap (elem x) (sym (from-some n out (q .0) (q .1))) ∙ e)) [
+      elim (option? (nextSystem out)) [
+        | inl z ↦ clash (ap (elem x) (sym (from-none n Y ss out z)) ∙ e) refl
+        | inr q ↦ elim (or-out _ _ (ap (elem x) (sym (from-some n Y ss out (q .0) (q .1))) ∙ e)) [
           | inl z ↦ ap (isSystem Y) (==-out _ _ z) ∙ next-some out (q .0) (q .1) .0
           | inr z ↦ systems-are n (q .0 ∷ out) x z
         ]
@@ -185,10 +184,10 @@ module _ (b : Book) (g : Good b) (ss : List ℕ) (ks : Lists ss (isSystem (b .sy
     fine-from : (n : ℕ) (out : List ℕ) → Out out → Fine gc Can (map gc out) (systemsFrom n Y ss out)
     fine-from zero out o = unfold systemsFrom in none-left
     fine-from (suc n) out o =
-        elim (option? (next out)) [
-          | inl z ↦ subst (Fine gc Can (map gc out)) (sym (from-none n out z)) none-left
+        elim (option? (nextSystem out)) [
+          | inl z ↦ subst (Fine gc Can (map gc out)) (sym (from-none n Y ss out z)) none-left
           | inr q ↦ (let x = q .0 in let r = next-some out x (q .1) in let o′ = out-more out o x (r .0) (r .2) in
-              subst (Fine gc Can (map gc out)) (sym (from-some n out x (q .1)))
+              subst (Fine gc Can (map gc out)) (sym (from-some n Y ss out x (q .1)))
               (one-more (record { is = r .0; new = out-new out o x (r .0) (r .1); closed = out-closed (x ∷ out) o′ }) (fine-from n (x ∷ out) o′)))
         ]
 

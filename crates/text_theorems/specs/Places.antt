@@ -2,7 +2,7 @@
 use mathlib.Core.Bool.{Bool, false, true}
 use mathlib.Core.List.{List, [], _++_, _∷_, append-assoc, append-nil, map}
 use mathlib.Core.Logic.{_⊎_, inl, inr}
-use mathlib.Core.Option.{Option, Option·some-injective, none, some}
+use mathlib.Core.Option.{Option, Option·some-injective, some}
 use mathlib.Core.Path.{_∙_, _≡_, ap, refl, subst, sym}
 use Prim.Native.Nat.{_<_, _≤_, suc, zero, zero-le, ℕ}
 use native.Mathlib.Nat.{le-trans}
@@ -11,16 +11,15 @@ use lib.Dec.{T}
 use lib.ListN.{getD, length}
 use Rattle.model.specs.Lists.{elem, every, nonEmpty, once}
 use Rattle.model.specs.Maps.{has, isSome, optionMap, orElse}
-use Rattle.sets.specs.TestLaws.{<?-out, ==-in, ==-out, ==-same, and-in, and-l, and-r, bool?, clash, count-le, count-strict, fails}
-use Rattle.sets.specs.TestLaws.{if-false, if-true, iff→≡, not-in, not-out, or-false, or-l, or-out, or-r}
-use Rattle.sets.specs.Tests.{_&_, _<?_, _==_, count, if_then_else_, ~_}
-use Rattle.text.specs.Bytes.{Text, among, same, short}
+use Rattle.sets.specs.TestLaws.{<?-out, ==-out, ==-same, and-in, and-l, and-r, bool?, clash, count-le, count-strict, fails}
+use Rattle.sets.specs.TestLaws.{if-false, if-true, not-in, not-out, or-false, or-l, or-out, or-r}
+use Rattle.sets.specs.Tests.{_&_, _<?_, count, if_then_else_, ~_}
+use Rattle.text.specs.Bytes.{among, same}
 use Rattle.text.specs.Handed.{Once}
 use Rattle.text.specs.Language.{Name}
 use Rattle.text.specs.Tables.{Table, enter, nameAt, number, place}
-use Rattle.text_theorems.specs.ReadsBack.{same-out, same-refl}
-use Rattle.text_theorems.specs.Renamed.{Renaming}
-use Rattle.theorems.specs.MapLaws.{has-in, has-out, isSome-in, isSome-out, no-some, option?, optionMap-out}
+use Rattle.text_theorems.specs.TextLaws.{every-append, length-map, same-out, same-refl, same-sym}
+use Rattle.theorems.specs.MapLaws.{has-out, isSome-in, isSome-out, no-some, optionMap-out}
 
 -- ---- the place of a name
 
@@ -124,12 +123,6 @@ unfolding enter every put-in
 enter-has t [] = refl
 enter-has t (w ∷ ws) = and-in _ _ (enter-keeps (put-in t w) ws w (put-in-has t w)) (enter-has (put-in t w) ws)
 
--- a test that each name passes
-pub every-append : {A : Type 0} (test : A → Bool) (xs ys : List A) → every test xs ≡ true → every test ys ≡ true → every test (xs ++ ys) ≡ true
-unfolding every
-every-append test [] ys p q = q
-every-append test (x ∷ xs) ys p q = and-in _ _ (and-l _ _ p) (every-append test xs ys (and-r _ _ p) q)
-
 pub enter-every : (test : Name → Bool) (t : Table) (ws : List Name) → every test t ≡ true → every test ws ≡ true → every test (enter t ws) ≡ true
 unfolding enter every
 enter-every test t [] p q = p
@@ -139,19 +132,11 @@ enter-every test t (w ∷ ws) p q = enter-every test _ ws
       | inr e ↦ ap (every test) (if-false _ _ _ e) ∙ every-append test t (w ∷ []) p (unfold every in and-in _ _ (and-l _ _ q) refl)
     ]) (and-r _ _ q)
 
-pub every-among : (test : Name → Bool) (t : Table) (w : Name) → every test t ≡ true → among w t ≡ true → test w ≡ true
-unfolding every among
-every-among test [] w p a = clash a refl
-every-among test (x ∷ xs) w p a = elim (or-out _ _ a) [ inl q ↦ ap test (same-out w x q) ∙ and-l _ _ p | inr q ↦ every-among test xs w (and-r _ _ p) q ]
-
 -- ---- no name twice
 
 unfoldable pub apart : Table → Bool
 apart [] = true
 apart (x ∷ xs) = ~ (among x xs) & apart xs
-
-same-sym : (a b : Text) → same a b ≡ true → same b a ≡ true
-same-sym a b e = ap (λ (z : Text). same b z) (same-out a b e) ∙ same-refl b
 
 one-among : (x w : Name) → among x (w ∷ []) ≡ true → same x w ≡ true
 unfolding among
@@ -237,69 +222,8 @@ small-numbers t L (x ∷ xs) k =
     let q = has-out _ _ (and-l _ _ k) in
     and-in _ _ (ap (λ (n : ℕ). n <? L) (number-at t x (q .0) (q .1)) ∙ q .2) (small-numbers t L xs (and-r _ _ k))
 
-pub length-map : {A B : Type 0} (f : A → B) (xs : List A) → length (map f xs) ≡ length xs
-length-map f [] = refl
-length-map f (x ∷ xs) = ap suc (length-map f xs)
-
 -- a table of names that all have numbers below L in another has at most L names
 pub known-fits : (t : Table) (L : ℕ) (T : Table) → apart T ≡ true → every (known t L) T ≡ true → length T ≤ L
 known-fits t L T a k =
     subst (λ (n : ℕ). n ≤ L) (length-map (number t) T)
     (le-trans (once-count L (map (number t) T) (apart-numbers t L T a k) (small-numbers t L T k)) (count-le L (λ i. elem i (map (number t) T))))
-
--- ---- from one table's numbers to another's
-
--- the number in T of what is n in t
-unfoldable pub new : Table → Table → ℕ → ℕ
-new t T n = number T (nameAt t n)
-
--- the number in t of what is m in T: L, which nothing has, where t has not its name
-unfoldable pub old : Table → Table → ℕ → ℕ → ℕ
-old t T L m = orElse (place t (nameAt T m)) L
-
-module _ (t T : Table) (L : ℕ) (Use : ℕ → Type 0) (ot : Once t) (aT : apart T ≡ true) (short : length T ≤ L)
-    (used : (n : ℕ) → Use n → (n < L) × (nonEmpty (nameAt t n) ≡ true) × (among (nameAt t n) T ≡ true)) where
-  at-new : (n : ℕ) → Use n → place T (nameAt t n) ≡ some (new t T n)
-  unfolding new
-  at-new n u = let q = isSome-out _ (place-there T (nameAt t n) (used n u .2)) in q .1 ∙ ap some (sym (number-at T (nameAt t n) (q .0) (q .1)))
-
-  old-at : (m n : ℕ) → place t (nameAt T m) ≡ some n → old t T L m ≡ n
-  unfolding old orElse
-  old-at m n e = ap (λ (o : Option ℕ). orElse o L) e
-
-  old-no : (m : ℕ) → place t (nameAt T m) ≡ none → old t T L m ≡ L
-  unfolding old orElse
-  old-no m e = ap (λ (o : Option ℕ). orElse o L) e
-
-  new-old : (m n : ℕ) → place t (nameAt T m) ≡ some n → nonEmpty (nameAt t n) ≡ true → new t T n ≡ m
-  unfolding new
-  new-old m n e h =
-      let q = place-name t (nameAt T m) n e .0 in
-      number-at T (nameAt t n) m (ap (place T) q ∙ place-of T (apart-once T aT) m (subst (λ (z : Name). nonEmpty z ≡ true) q h))
-
-  pub renaming : Renaming (old t T L) (new t T) L Use
-  renaming = record {
-    back = λ n u. old-at (new t T n) n (ap (place t) (place-name T (nameAt t n) (new t T n) (at-new n u) .0) ∙ place-of t ot n (used n u .1));
-    small = λ n u. le-trans (place-name T (nameAt t n) (new t T n) (at-new n u) .1) short;
-    forth = λ m u. elim (option? (place t (nameAt T m))) [
-      | inl e ↦ (let h = used _ u .0 in let z = old-no m e in absurd (omega arith))
-      | inr q ↦ (let z = old-at m (q .0) (q .1) in ap (new t T) z ∙ new-old m (q .0) (q .1) (subst (λ (k : ℕ). nonEmpty (nameAt t k) ≡ true) z (used _ u .1)))
-    ];
-  }
-
-  -- a test at a name's number, in T and in t
-  pub at-through : (w : Name) (P P′ : ℕ → Bool) → ((m : ℕ) → P′ m ≡ P (old t T L m)) → ((n : ℕ) → P n ≡ true → Use n) → has (place T w) P′ ≡ has (place t w) P
-  at-through w P P′ h u = iff→≡ _ _
-      (λ e. let q = has-out _ _ e in let m = q .0 in let a = place-name T w m (q .1) .0 in let k = sym (h m) ∙ q .2 in
-        elim (option? (place t (nameAt T m))) [
-          | inl z ↦ (let b = used _ (u _ k) .0 in let c = old-no m z in absurd (omega arith))
-          | inr z ↦ has-in _ _ (z .0) (ap (place t) (sym a) ∙ z .1) (ap P (sym (old-at m (z .0) (z .1))) ∙ k)
-        ])
-      (λ e. let q = has-out _ _ e in let n = q .0 in let a = place-name t w n (q .1) .0 in let k = u n (q .2) in
-        has-in _ _ (new t T n) (ap (place T) (sym a) ∙ at-new n k) (h _ ∙ ap P (renaming .back n k) ∙ q .2))
-
--- two numbers are equal, in either table
-pub eq-through : (f g : ℕ → ℕ) (L : ℕ) (Use : ℕ → Type 0) → Renaming f g L Use → (m d : ℕ) → Use d → (m == g d) ≡ (f m == d)
-eq-through f g L Use R m d u = iff→≡ _ _
-    (λ e. ==-in _ _ (ap f (==-out _ _ e) ∙ R .back d u))
-    (λ e. ==-in _ _ (sym (R .forth m (subst Use (sym (==-out _ _ e)) u)) ∙ ap g (==-out _ _ e)))

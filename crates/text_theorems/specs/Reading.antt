@@ -16,12 +16,9 @@ use Rattle.text.specs.Language.{Reader, _>>=_, _>>_, ahead, aheadOf, equals, gi
 use Rattle.text.specs.Language.{want, wantOf, when}
 use Rattle.text.specs.Tokens.{Token, closing, isToken, nextToken, past, run, skip, skipped, token, tokenAt, word}
 use Rattle.text.specs.Written.{parted}
+use Rattle.text_theorems.specs.TextLaws.{length-map}
 use base.Logic.{sep}
 use types.Run.{no-more, stop}
-
-length-map : {A B : Type 0} (f : A → B) (xs : List A) → length (map f xs) ≡ length xs
-length-map f [] = refl
-length-map f (x ∷ xs) = ap suc (length-map f xs)
 
 -- ---- runs
 

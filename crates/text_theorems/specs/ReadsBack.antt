@@ -2,137 +2,26 @@
 use mathlib.Core.Bool.{Bool, false, true}
 use mathlib.Core.List.{List, [], _++_, _∷_, append-assoc, map, map-map}
 use mathlib.Core.Option.{Option, none, some}
-use mathlib.Core.Path.{_∙_, _≡_, ap, ap₂, refl, subst, sym}
-use Prim.Native.Nat.{ℕ}
+use mathlib.Core.Path.{_∙_, _≡_, ap, ap₂, refl, sym}
 use native.Mathlib.Omega.{arith}
 use Rattle.model.specs.Lists.{every, nonEmpty}
 use Rattle.model.specs.Maps.{has}
-use Rattle.sets.specs.TestLaws.{==-out, ==-same, and-in, and-l, and-r, clash, fails, if-false, if-true, not-out}
-use Rattle.sets.specs.Tests.{_&_, if_then_else_, ~_}
-use Rattle.text.specs.Bytes.{Text, among, bytes, implByte, keywords, nameByte, nameWord, same, short, validImplementation}
-use Rattle.text.specs.Bytes.{validName}
-use Rattle.text.specs.Language.{MOD, Name, NamedMembers, SPEC, SYS, Said, add-mod, add-spec, add-sys, ahead, aheadOf, byWord, comma}
-use Rattle.text.specs.Language.{command, commandOf, compo, compos, equals, give, grammar, imp, key, listOf, modVersion, name, names}
+use Rattle.sets.specs.TestLaws.{==-same, and-in, and-l, and-r, clash, if-true}
+use Rattle.sets.specs.Tests.{_&_, if_then_else_}
+use Rattle.text.specs.Bytes.{Text, among, bytes, implByte, keywords, nameByte, same, short, validImplementation, validName}
+use Rattle.text.specs.Language.{MOD, Name, NamedMembers, SPEC, SYS, Said, add-mod, add-spec, add-sys, ahead, byWord, comma, command}
+use Rattle.text.specs.Language.{commandOf, compo, compos, equals, give, grammar, imp, key, listOf, modVersion, name, names}
 use Rattle.text.specs.Language.{namesUpTo, point, quotedOf, readAs, requirements, said, semicolon, specVersion, standards}
 use Rattle.text.specs.Language.{sysVersion, theOne, want, when}
-use Rattle.text.specs.Tokens.{Token, closing, isToken, nextToken, past, quoted, run, token, word}
+use Rattle.text.specs.Tokens.{closing, isToken, nextToken, past, quoted, run, token, word}
 use Rattle.text.specs.Written.{commas, line, memberPiece, modPiece, parted, requiring, semicolons, specPiece, sysPiece}
 use Rattle.text_theorems.specs.Reading.{ListLaw, bind, lexing, list-reads, name-reads, name-spaced, next-space, past-word}
 use Rattle.text_theorems.specs.Reading.{run-word, stops, thence, valid-name, valid-word, want-end, want-equals, want-impl}
 use Rattle.text_theorems.specs.Reading.{want-provides, want-semicolon, want-use}
-
--- ---- texts that are the same
-
-pub same-out : (a b : Text) → same a b ≡ true → a ≡ b
-unfolding same
-same-out [] [] e = refl
-same-out [] (d ∷ ds) e = clash e refl
-same-out (c ∷ cs) [] e = clash e refl
-same-out (c ∷ cs) (d ∷ ds) e = ap₂ (λ (x : ℕ) (l : Text). x ∷ l) (==-out _ _ (and-l _ _ e)) (same-out cs ds (and-r _ _ e))
-
-pub same-refl : (a : Text) → same a a ≡ true
-unfolding same
-same-refl [] = refl
-same-refl (c ∷ cs) = and-in _ _ (==-same c) (same-refl cs)
-
--- a name is no keyword
-no-keyword : (k w : Text) → among k keywords ≡ true → nameWord w ≡ true → same k w ≡ false
-unfolding nameWord
-no-keyword k w a n = fails _ (λ e. clash (subst (λ (x : Text). among x keywords ≡ true) (same-out k w e) a) (not-out _ (and-r _ _ n)))
-
-ahead-no : (k : Token) (t : Text) (j : Token) (u : Text) → nextToken t ≡ token j u → isToken k j ≡ false → ahead k t ≡ some (false, t)
-unfolding ahead aheadOf
-ahead-no k t j u e f = ap (aheadOf k t) e ∙ ap some (if-false _ _ _ f)
-
--- ---- what stands behind a version's piece
-
-pub data Tail : Text → Type 0 where
-  semi : (u : Text) → Tail (bytes "; " ++ u)
-  last : (u : Text) → Tail (bytes " end\n" ++ u)
-
-tail-stops : (t : Text) → Tail t → stops nameByte t ≡ true
-unfolding lexing
-tail-stops t (semi u) = refl
-tail-stops t (last u) = refl
-
-tail-comma : (t : Text) → Tail t → ahead comma t ≡ some (false, t)
-unfolding lexing
-tail-comma t (semi u) = refl
-tail-comma t (last u) = refl
-
-tail-requires : (t : Text) → Tail t → ahead (key "requires") t ≡ some (false, t)
-unfolding lexing
-tail-requires t (semi u) = refl
-tail-requires t (last u) = refl
-
-ahead-semicolon : (t : Text) → ahead semicolon (32 ∷ (bytes "; " ++ t)) ≡ some (true, 32 ∷ t)
-unfolding lexing
-ahead-semicolon t = refl
-
-ahead-requires : (c t : Text) → ahead (key "requires") ((bytes " requires " ++ c) ++ t) ≡ some (true, 32 ∷ (c ++ t))
-unfolding lexing
-ahead-requires c t = refl
-
-ahead-std : (c t : Text) → ahead (key "std") (32 ∷ ((bytes "std " ++ c) ++ t)) ≡ some (true, 32 ∷ (c ++ t))
-unfolding lexing
-ahead-std c t = refl
-
--- a name ends before each of these
-stop-provides : (t : Text) → stops nameByte (bytes " provides " ++ t) ≡ true
-unfolding lexing
-stop-provides t = refl
-
-stop-use : (t : Text) → stops nameByte (bytes " use " ++ t) ≡ true
-unfolding lexing
-stop-use t = refl
-
-stop-impl : (t : Text) → stops nameByte (bytes " impl \"" ++ t) ≡ true
-unfolding lexing
-stop-impl t = refl
-
-stop-semicolon : (t : Text) → stops nameByte (bytes "; " ++ t) ≡ true
-unfolding lexing
-stop-semicolon t = refl
-
-stop-point : (t : Text) → stops nameByte (bytes "." ++ t) ≡ true
-unfolding lexing
-stop-point t = refl
-
-stop-equals : (t : Text) → stops nameByte (bytes " = " ++ t) ≡ true
-unfolding lexing
-stop-equals t = refl
-
--- ---- names
-
-pub map-same : {A : Type 0} (xs : List A) → map (λ x. x) xs ≡ xs
-map-same [] = refl
-map-same (x ∷ xs) = ap (λ l. x ∷ l) (map-same xs)
-
-name-law : ListLaw comma name (λ w. w) (bytes ", ") validName (λ t. stops nameByte t ≡ true)
-unfolding lexing
-name-law = record { one = λ x t v h. name-spaced x t v h; on = λ t. refl; sep-stops = λ t. refl; wide = omega arith }
-
-pub names-read : (xs : List Name) (t : Text) → nonEmpty xs ≡ true → every validName xs ≡ true → stops nameByte t ≡ true → ahead comma t ≡ some (false, t) → names (32 ∷ (commas xs ++ t)) ≡ some (xs, t)
-unfolding names commas
-names-read xs t e o h a =
-    ap (λ (l : List Name). listOf comma name (32 ∷ (parted (bytes ", ") l ++ t))) (sym (map-same xs))
-    ∙ list-reads comma name (λ w. w) (bytes ", ") validName _ name-law t h a xs e o
-
--- the nextToken token of names is the first of them
-first-name : (x : Name) (xs : List Name) (t : Text) → validName x ≡ true → stops nameByte t ≡ true → (u : Text) × (nextToken (32 ∷ (commas (x ∷ xs) ++ t)) ≡ token (word x) u)
-unfolding commas parted
-first-name x [] t v h = (t, next-space _ ∙ valid-word x t v h)
-first-name x (y ∷ ys) t v h =
-    (_, next-space _ ∙ ap nextToken (append-assoc x _ t) ∙ valid-word x ((bytes ", " ++ parted (bytes ", ") (y ∷ ys)) ++ t) v (unfold lexing in refl))
-
-pub upTo-semicolon : (xs : List Name) (t : Text) → every validName xs ≡ true → namesUpTo semicolon (32 ∷ (commas xs ++ (bytes "; " ++ t))) ≡ some (xs, 32 ∷ t)
-unfolding namesUpTo every when ~_ give commas parted
-upTo-semicolon [] t o = bind (ahead semicolon) _ _ (ahead-semicolon t)
-upTo-semicolon (x ∷ xs) t o =
-    let f = first-name x xs (bytes "; " ++ t) (and-l _ _ o) (unfold lexing in refl) in
-    bind (ahead semicolon) _ _ (ahead-no semicolon _ (word x) (f .0) (f .1) (unfold isToken in refl))
-    ∙ bind names _ _ (names-read (x ∷ xs) (bytes "; " ++ t) (unfold nonEmpty in refl) o (unfold lexing in refl) (unfold lexing in refl))
-    ∙ thence (want semicolon) _ _ (want-semicolon t)
+use Rattle.text_theorems.specs.ReadsNames.{Tail, ahead-no, ahead-requires, ahead-std, last, names-read, no-keyword, semi}
+use Rattle.text_theorems.specs.ReadsNames.{stop-equals, stop-impl, stop-point, stop-provides, stop-semicolon, stop-use}
+use Rattle.text_theorems.specs.ReadsNames.{tail-comma, tail-requires, tail-stops, upTo-semicolon}
+use Rattle.text_theorems.specs.TextLaws.{every-map, map-same, nonEmpty-map}
 
 -- ---- spec
 
@@ -188,16 +77,6 @@ flag s x = (same (x .0) s, x)
 
 unfoldable pub okVersion : Name × List Name → Bool
 okVersion x = validName (x .0) & every validName (x .1)
-
-pub every-map : {A B : Type 0} (f : A → B) (test : B → Bool) (xs : List A) → every test (map f xs) ≡ every (λ x. test (f x)) xs
-unfolding every
-every-map f test [] = refl
-every-map f test (x ∷ xs) = ap (λ (b : Bool). test (f x) & b) (every-map f test xs)
-
-pub nonEmpty-map : {A B : Type 0} (f : A → B) (xs : List A) → nonEmpty xs ≡ true → nonEmpty (map f xs) ≡ true
-unfolding nonEmpty
-nonEmpty-map f [] e = e
-nonEmpty-map f (x ∷ xs) e = refl
 
 versions-read : (s : Name) (vs : List (Name × List Name)) (t : Text) → nonEmpty vs ≡ true → every okVersion vs ≡ true → listOf semicolon specVersion (32 ∷ (semicolons (map (specPiece s) vs) ++ (bytes " end\n" ++ t))) ≡ some (map (flag s) vs, bytes " end\n" ++ t)
 unfolding semicolons specPiece flaggedPiece flag okVersion okFlagged

@@ -1,23 +1,21 @@
 -- A book written as text and read into an empty session.
 use mathlib.Core.Bool.{Bool, false, true}
-use mathlib.Core.List.{List, [], _∷_, map, map-map}
-use mathlib.Core.Logic.{inl, inr}
+use mathlib.Core.List.{List, [], map, map-map}
 use mathlib.Core.Option.{Option, none, some}
-use mathlib.Core.Path.{_∙_, _≡_, ap, ap₂, refl, subst, sym}
+use mathlib.Core.Path.{_∙_, _≡_, ap, refl, subst, sym}
 use Prim.Native.Nat.{ℕ}
 use lib.ListN.{length}
 use Rattle.model.specs.Book.{Book, Modules, Specs, Systems, components, composed, empty, facilities, hasVersion, implementation}
 use Rattle.model.specs.Book.{isMember, isModule, isSystem, member, provides, requires, specified, standard, usable, versions}
 use Rattle.model.specs.Commands.{ADD-MOD, ADD-SPEC, ADD-SYS, Command, after}
-use Rattle.model.specs.Lists.{elem, once}
+use Rattle.model.specs.Lists.{elem}
 use Rattle.model.specs.Maps.{has, isSome, optionMap, orElse}
 use Rattle.model.specs.PlainBook.{answer}
 use Rattle.model.specs.Rules.{B5, B5at}
-use Rattle.sets.specs.TestLaws.{==-in, ==-not, ==-out, ==-same, and-in, and-l, and-r, any-out, bool?, clash, fails, if-false}
-use Rattle.sets.specs.TestLaws.{if-true, not-out, or-false, or-l, or-out, or-r}
-use Rattle.text.specs.Bytes.{same, validImplementation, validName}
+use Rattle.sets.specs.TestLaws.{and-in, and-l, any-out}
+use Rattle.text.specs.Bytes.{validImplementation, validName}
 use Rattle.text.specs.Handed.{Named}
-use Rattle.text.specs.Language.{Name, NamedMembers, Said, standards}
+use Rattle.text.specs.Language.{Name, NamedMembers}
 use Rattle.text.specs.SameByNames.{accepted}
 use Rattle.text.specs.Session.{session}
 use Rattle.text.specs.Tables.{Tables, modNumbered, nameAt, noNames, number, numberedMembers, numbers, specNumbered, sysNumbered}
@@ -26,85 +24,21 @@ use Rattle.text.specs.Written.{written}
 use Rattle.text_theorems.specs.Listed.{every-of, lists-nonEmpty}
 use Rattle.text_theorems.specs.Mentions.{T, T-fits, cs-lists, li-lists, lk-lists, lm-lists, lp-lists, lq-lists, lu-lists}
 use Rattle.text_theorems.specs.Mentions.{lv-lists, ms-lists, renumbering, valid-some, ys-lists}
-use Rattle.text_theorems.specs.Order.{Can, Fine, none-left, one-more, systems-all, systems-fine}
-use Rattle.text_theorems.specs.Places.{new}
-use Rattle.text_theorems.specs.ReadsBack.{Writable, aMod, aSpec, aSys, flag, nonEmpty-map, okMember, okMod, okSys, okVersion}
-use Rattle.text_theorems.specs.ReadsBack.{same-out, same-refl}
-use Rattle.text_theorems.specs.Renamed.{Renaming, Renumbering, UsedC}
-use Rattle.text_theorems.specs.Runs.{Numbered, Plan, go, nMod, nSpec, nSys, plan-append, plan-runs, runs-length, runs-text}
-use Rattle.text_theorems.specs.Runs.{stop}
+use Rattle.text_theorems.specs.NewPlaces.{new}
+use Rattle.text_theorems.specs.Numbered.{nMod, nSpec, nSys}
+use Rattle.text_theorems.specs.Order.{Can, systems-all, systems-fine}
+use Rattle.text_theorems.specs.Phases.{Step, list-fine, one-mark, phase, pushed, pushed-in}
+use Rattle.text_theorems.specs.ReadsBack.{Writable, aMod, aSpec, aSys, okMember, okMod, okSys, okVersion}
+use Rattle.text_theorems.specs.Renamed.{Renumbering, UsedC}
+use Rattle.text_theorems.specs.Runs.{Plan, plan-append, plan-runs, runs-length, runs-text}
 use Rattle.text_theorems.specs.Steps.{M′, S′, Y′, bm, bs, by, isModule′, isSystem′, mod-after, mod-yes, modK, only-all}
 use Rattle.text_theorems.specs.Steps.{only-none, spec-after, spec-yes, specK, specified′, sys-after, sys-yes, sysK}
 use Rattle.text_theorems.specs.Steps.{sysMembers}
+use Rattle.text_theorems.specs.TextLaws.{nonEmpty-map, or-at, same-out}
 use Rattle.theorems.specs.Frame.{composition-out, mem-usable}
 use Rattle.theorems.specs.Good.{Good}
 use Rattle.theorems.specs.MapLaws.{isSome-out}
 use contract.Running.{tables}
-
--- ---- one phase
-
-pushed : (ℕ → ℕ) → List ℕ → List ℕ → List ℕ
-pushed gc [] l = l
-pushed gc (c ∷ cs) l = pushed gc cs (gc c ∷ l)
-
-pushed-keeps : (gc : ℕ → ℕ) (cs l : List ℕ) (m : ℕ) → elem m l ≡ true → elem m (pushed gc cs l) ≡ true
-unfolding pushed elem
-pushed-keeps gc [] l m e = e
-pushed-keeps gc (c ∷ cs) l m e = pushed-keeps gc cs (gc c ∷ l) m (or-r _ _ e)
-
-pushed-in : (gc : ℕ → ℕ) (cs l : List ℕ) (n : ℕ) → elem n cs ≡ true → elem (gc n) (pushed gc cs l) ≡ true
-unfolding pushed elem
-pushed-in gc [] l n e = clash e refl
-pushed-in gc (c ∷ cs) l n e =
-    elim (or-out _ _ e) [ inl q ↦ pushed-keeps gc cs (gc c ∷ l) (gc n) (unfold elem in or-l _ _ (==-in _ _ (ap gc (==-out _ _ q)))) | inr q ↦ pushed-in gc cs (gc c ∷ l) n q ]
-
-record Step (T : Tables) (gc : ℕ → ℕ) (bk : List ℕ → Book) (mk : ℕ → Said) (l : List ℕ) (c : ℕ) : Type 0 where
-  K : Command
-  writable : Writable (mk c)
-  numbered : Numbered T (mk c) K
-  yes′ : answer (bk l) K ≡ 0
-  gives : after (bk l) K ≡ bk (gc c ∷ l)
-
-phase : (T : Tables) (gc : ℕ → ℕ) (bk : List ℕ → Book) (mk : ℕ → Said) (Can : List ℕ → ℕ → Type 0) → ((l : List ℕ) (c : ℕ) → Can l c → Step T gc bk mk l c)
-    → {l cs : List ℕ} → Fine gc Can l cs → Plan T (bk l) (map mk cs) (bk (pushed gc cs l))
-unfolding pushed
-phase T gc bk mk Can h none-left = stop
-phase T gc bk mk Can h (one-more {l = l} {c = c} {cs = cs} k r) =
-    let q = h l c k in
-    go (q .K) (q .writable) (q .numbered) (q .yes′) (subst (λ (z : Book). Plan T z (map mk cs) (bk (pushed gc cs (gc c ∷ l)))) (sym (q .gives)) (phase T gc bk mk Can h r))
-
--- a list without repetition goes in
-list-fine : (fc gc : ℕ → ℕ) (L : ℕ) (Use : ℕ → Type 0) → Renaming fc gc L Use → (test : ℕ → Bool) → ((n : ℕ) → test n ≡ true → Use n) → (cs l : List ℕ) → once cs ≡ true
-    → ((n : ℕ) → elem n cs ≡ true → (test n ≡ true) × (elem (gc n) l ≡ false)) → Fine gc (λ l c. (test c ≡ true) × (elem (gc c) l ≡ false)) l cs
-unfolding once elem
-list-fine fc gc L Use R test u [] l o h = none-left
-list-fine fc gc L Use R test u (c ∷ cs) l o h =
-    one-more (h c (or-l _ _ (==-same c))) (list-fine fc gc L Use R test u cs (gc c ∷ l) (and-r _ _ o) (λ n e.
-      (h n (or-r _ _ e) .0, or-false _ _ (==-not (gc n) (gc c) (λ z.
-        clash {A = ⊥} (subst (λ (k : ℕ). elem k cs ≡ true) (sym (R .back n (u n (h n (or-r _ _ e) .0))) ∙ ap fc z ∙ R .back c (u c (h c (or-l _ _ (==-same c)) .0))) e) (not-out _ (and-l _ _ o)))) ∙ h n (or-r _ _ e) .1)))
-
--- ---- the standard version's mark
-
-no-mark : (N : ℕ → Name) (h : ℕ → List Name) (d : ℕ) (l : List ℕ) → ((n : ℕ) → elem n l ≡ true → same (N n) (N d) ≡ false) → standards (map (flag (N d)) (map (λ v. (N v, h v)) l)) ≡ []
-unfolding standards flag elem
-no-mark N h d [] k = refl
-no-mark N h d (x ∷ xs) k = if-false _ _ _ (k x (or-l _ _ (==-same x))) ∙ no-mark N h d xs (λ n e. k n (or-r _ _ e))
-
-one-mark : (N : ℕ → Name) (h : ℕ → List Name) (d : ℕ) (l : List ℕ) → once l ≡ true → elem d l ≡ true → ((n : ℕ) → elem n l ≡ true → same (N n) (N d) ≡ true → n ≡ d)
-    → standards (map (flag (N d)) (map (λ v. (N v, h v)) l)) ≡ N d ∷ []
-unfolding standards flag elem once
-one-mark N h d [] o e k = clash e refl
-one-mark N h d (x ∷ xs) o e k =
-    elim (bool? (same (N x) (N d))) [
-      | inl q ↦ (let z = k x (or-l _ _ (==-same x)) q in
-          if-true _ _ _ q ∙ ap₂ (λ (a : Name) (r : List Name). a ∷ r) (ap N z)
-          (no-mark N h d xs (λ n w. fails _ (λ y. clash {A = ⊥} (subst (λ (i : ℕ). elem i xs ≡ true) (k n (or-r _ _ w) y ∙ sym z) w) (not-out _ (and-l _ _ o))))))
-      | inr q ↦ if-false _ _ _ q ∙ one-mark N h d xs (and-r _ _ o)
-          (elim (or-out _ _ e) [ inl z ↦ clash (ap (λ (i : ℕ). same (N i) (N d)) (sym (==-out _ _ z)) ∙ same-refl (N d)) q | inr z ↦ z ])
-          (λ n w y. k n (or-r _ _ w) y)
-    ]
-
--- ---- a proper book
 
 module _ (b : Book) (t : Tables) (g : Good b) (nm : Named (record { book = b; tables = t })) where
   abbrev S : Specs
@@ -154,10 +88,6 @@ module _ (b : Book) (t : Tables) (g : Good b) (nm : Named (record { book = b; ta
 
   abbrev mv : ℕ → ℕ → ℕ → ℕ
   mv s v c = orElse (member Y s v c) 0
-
-  or-at : (o : Option ℕ) (n : ℕ) → o ≡ some n → orElse o 0 ≡ n
-  unfolding orElse
-  or-at o n e = ap (λ (x : Option ℕ). orElse x 0) e
 
   -- ---- specs
 

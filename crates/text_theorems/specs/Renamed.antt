@@ -2,8 +2,8 @@
 -- A book under other numbers: the needs and the rules B3 to B9 do not change.
 use mathlib.Core.Bool.{Bool, false, true}
 use mathlib.Core.Logic.{inl, inr}
-use mathlib.Core.Option.{Option, none, some}
-use mathlib.Core.Path.{_∙_, _≡_, ap, ap₂, refl, sym}
+use mathlib.Core.Option.{Option, some}
+use mathlib.Core.Path.{_∙_, _≡_, ap, ap₂, sym}
 use Prim.Native.Nat.{_<_, suc, zero, ℕ}
 use Rattle.model.specs.Book.{Book, Modules, Specs, Systems, components, composed, facilities, hasVersion, implementation}
 use Rattle.model.specs.Book.{implementations, isMember, isSystem, member, provides, requires, specified, usable, versions}
@@ -12,8 +12,9 @@ use Rattle.model.specs.Rules.{B3, B3at, B4, B5, B5at, B6, B6at, B7, B7at, B8, B
 use Rattle.model.specs.Rules.{offered, p, r, reaches, reachesIn}
 use Rattle.sets.specs.Sets.{disjoint, meet, minus, subset, union}
 use Rattle.sets.specs.TestLaws.{==-in, ==-out, all-cong, all-in, all-out, and-in, and-l, and-r, any-cong, any-in, any-out, bool?}
-use Rattle.sets.specs.TestLaws.{clash, fails, iff→≡, imp-cong, imp-no, not-in, not-no, not-out, or-l, or-out, or-r}
-use Rattle.sets.specs.Tests.{_&_, _==_, _or_, _⇒_, all, any, if_then_else_, ~_}
+use Rattle.sets.specs.TestLaws.{clash, fails, iff→≡, imp-no, not-in, not-no, not-out, or-l, or-out, or-r}
+use Rattle.sets.specs.Tests.{_&_, _==_, _or_, _⇒_, all, any, ~_}
+use Rattle.text_theorems.specs.TextLaws.{has-map, if-cong, if-there-map, imp-like, there-no}
 use Rattle.theorems.specs.Frame.{composed-system, composition-in, composition-out, mem-usable, system-in, system-out}
 use Rattle.theorems.specs.Good.{Good}
 use Rattle.theorems.specs.Heights.{usable-system}
@@ -84,31 +85,6 @@ pub record Like (S S₁ : Specs) (M : Modules) (Y Y₁ : Systems) (re : Renumber
   pub comps : (s v : ℕ) → isSystem Y₁ s ≡ true → composed Y₁ s v ≡ composed Y (re .fc s) (re .fv v)
   pub members : (s v c : ℕ) → isSystem Y₁ s ≡ true → member Y₁ s v c ≡ optionMap (re .gv) (member Y (re .fc s) (re .fv v) (re .fc c))
   pub kind : (s c : ℕ) → isSystem Y₁ s ≡ true → usable Y (re .fc s) (re .fc c) ≡ true → isSystem Y₁ c ≡ isSystem Y (re .fc c)
-
-pub has-map : {A B : Type 0} (h : A → B) (o : Option A) (t : B → Bool) → has (optionMap h o) t ≡ has o (λ x. t (h x))
-unfolding has optionMap
-has-map h none t = refl
-has-map h (some x) t = refl
-
-if-there-map : {A B : Type 0} (h : A → B) (o : Option A) (t : B → Bool) → if-there (optionMap h o) t ≡ if-there o (λ x. t (h x))
-unfolding if-there optionMap
-if-there-map h none t = refl
-if-there-map h (some x) t = refl
-
-if-cong : {A : Type 0} (t t′ : Bool) {x x′ y y′ : A} → t ≡ t′ → (t ≡ true → x ≡ x′) → y ≡ y′ → (if t then x else y) ≡ (if t′ then x′ else y′)
-unfolding if_then_else_
-if-cong true true e f g = f refl
-if-cong true false e f g = clash (sym e) refl
-if-cong false true e f g = clash e refl
-if-cong false false e f g = g
-
-imp-like : {a a′ x x′ : Bool} → a ≡ a′ → (a ≡ true → x ≡ x′) → (a ⇒ x) ≡ (a′ ⇒ x′)
-imp-like {a} {a′} {x} {x′} e h = imp-cong a h ∙ ap (λ (z : Bool). z ⇒ x′) e
-
-there-no : {A : Type 0} (o : Option A) (t : A → Bool) → if-there o t ≡ false → (x : A) × (o ≡ some x)
-unfolding if-there
-there-no none t e = clash refl e
-there-no (some x) t e = (x, refl)
 
 module _ (b : Book) (g : Good b) (S₁ : Specs) (Y₁ : Systems) (re : Renumbering (b .specs) (b .modules))
     (K : Like (b .specs) S₁ (b .modules) (b .systems) Y₁ re) where

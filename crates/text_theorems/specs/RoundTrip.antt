@@ -4,8 +4,8 @@ use mathlib.Core.Option.{Option, none, some}
 use mathlib.Core.Path.{_∙_, _≡_, ap, refl, sym}
 use Prim.Native.Nat.{ℕ}
 use lib.ListN.{length}
-use Rattle.model.specs.Book.{Book, Modules, Spec, Specs, Systems, composed, hasVersion, implementation, isModule, isSystem, member}
-use Rattle.model.specs.Book.{provides, specified, standard}
+use Rattle.model.specs.Book.{Book, Modules, Spec, Specs, Systems, composed, hasVersion, implementation, isSystem, member, specified}
+use Rattle.model.specs.Book.{standard}
 use Rattle.model.specs.Maps.{has, isSome, optionMap, orElse}
 use Rattle.sets.specs.TestLaws.{==-out, and-cong, and-l, and-r, clash}
 use Rattle.sets.specs.Tests.{_&_, _==_}
@@ -17,17 +17,19 @@ use Rattle.text.specs.SameByNames.{Standard, Usable, Version, accepted, at, hol
 use Rattle.text.specs.Session.{State, session}
 use Rattle.text.specs.Tables.{Table, Tables, place}
 use Rattle.text.specs.Written.{asCommands}
+use Rattle.text_theorems.specs.BookLaws.{implementation-module, provides-specified}
 use Rattle.text_theorems.specs.Mentions.{T, atC, atF, atI, atV, renumbering}
 use Rattle.text_theorems.specs.NamedGood.{passes→named}
-use Rattle.text_theorems.specs.Places.{eq-through}
+use Rattle.text_theorems.specs.NewPlaces.{eq-through}
 use Rattle.text_theorems.specs.Rebuilt.{rebuilt, text-read}
-use Rattle.text_theorems.specs.Renamed.{Renumbering, has-map, implementationOf, providedBy, requiredBy, versionOf}
+use Rattle.text_theorems.specs.Renamed.{Renumbering, implementationOf, providedBy, requiredBy, versionOf}
 use Rattle.text_theorems.specs.Steps.{S′, composed′, hasVersion′, implementation′, isModule′, isSystem′, member′, provides′}
 use Rattle.text_theorems.specs.Steps.{pullSpec, requires′, specified′, usable′}
+use Rattle.text_theorems.specs.TextLaws.{has-map}
 use Rattle.theorems.specs.Frame.{composed-system, mem-usable, member-composed}
 use Rattle.theorems.specs.Good.{Good, requires-version, version-specified}
 use Rattle.theorems.specs.Heights.{usable-system}
-use Rattle.theorems.specs.MapLaws.{andThen-out, has-cong, has-out, isSome-in}
+use Rattle.theorems.specs.MapLaws.{has-cong, has-out, isSome-in}
 use contract.Running.{tables}
 
 module _ (b : Book) (t : Tables) (g : Good b) (nm : Named (record { book = b; tables = t })) where
@@ -62,23 +64,15 @@ module _ (b : Book) (t : Tables) (g : Good b) (nm : Named (record { book = b; ta
   sys-of : (s v : ℕ) → composed Y s v ≡ true → isSystem Y s ≡ true
   sys-of s v e = composed-system Y s v e
 
-  provides-spec : (c f : ℕ) → provides S c f ≡ true → specified S c ≡ true
-  unfolding provides specified
-  provides-spec c f e = isSome-in _ (has-out _ _ e .1)
-
-  impl-mod : (c v i : ℕ) → implementation M c v ≡ some i → isModule M c ≡ true
-  unfolding implementation isModule
-  impl-mod c v i e = isSome-in _ (andThen-out _ _ i e .1)
-
   impl-version : (c v i : ℕ) → implementation M c v ≡ some i → hasVersion S c v ≡ true
-  impl-version c v i e = sym (g .b2 .mod-covers c v (impl-mod c v i e)) ∙ isSome-in _ e
+  impl-version c v i e = sym (g .b2 .mod-covers c v (implementation-module M c v i e)) ∙ isSome-in _ e
 
   same-facts : Same (record { book = rebuilt b t g nm; tables = T b t g nm }) (record { book = b; tables = t })
   unfolding holds at
   same-facts (IsSpecified c) = atC b t g nm c _ _ (specified′ b g re) (λ n e. e)
   same-facts (IsModule c) = atC b t g nm c _ _ (isModule′ b g re) (λ n e. g .b2 .mod-spec n e)
   same-facts (IsSystem c) = atC b t g nm c _ _ (isSystem′ b g re) (λ n e. g .b2 .sys-spec n e)
-  same-facts (Provides c f) = atC b t g nm c _ _ (λ m. atF b t g nm f _ _ (provides′ b g re m) (λ n e. providedBy _ e)) (λ n e. let q = at-out _ f _ e in provides-spec n (q .0) (q .1))
+  same-facts (Provides c f) = atC b t g nm c _ _ (λ m. atF b t g nm f _ _ (provides′ b g re m) (λ n e. providedBy _ e)) (λ n e. let q = at-out _ f _ e in provides-specified S n (q .0) (q .1))
   same-facts (Version c v) = atC b t g nm c _ _ (λ m. atV b t g nm v _ _ (hasVersion′ b g re m) (λ n e. versionOf _ e)) (λ n e. let q = at-out _ v _ e in version-specified S n (q .0) (q .1))
   same-facts (Standard c v) = atC b t g nm c _ _ (λ m. atV b t g nm v _ _
       (λ k. ap (λ (x : Bool). x & k == standard (S′ b g re) m) (specified′ b g re m) ∙ and-cong _ (λ e. ap (λ (x : ℕ). k == x) (standard′ m e) ∙ eq-through _ _ _ _ (re .ofV) k _ (versionOf _ (g .b1 .std-in _ e))))
@@ -94,7 +88,7 @@ module _ (b : Book) (t : Tables) (g : Good b) (nm : Named (record { book = b; ta
         (λ k. atI b t g nm i _ _ (λ j. ap (λ (o : Option ℕ). has o (λ z. j == z)) (implementation′ b g re m k) ∙ has-map _ _ _ ∙ has-cong _ (λ z e. eq-through _ _ _ _ (re .ofI) j z (implementationOf _ _ e)))
           (λ n e. let q = has-out _ _ e in implementationOf _ _ (q .1 ∙ ap some (sym (==-out _ _ (q .2))))))
         (λ n e. let q = at-out _ i _ e in let r = has-out _ _ (q .1) in versionOf _ (impl-version _ n (r .0) (r .1))))
-      (λ n e. let q = at-out _ v _ e in let p = at-out _ i _ (q .1) in let r = has-out _ _ (p .1) in g .b2 .mod-spec n (impl-mod n (q .0) (r .0) (r .1)))
+      (λ n e. let q = at-out _ v _ e in let p = at-out _ i _ (q .1) in let r = has-out _ _ (p .1) in g .b2 .mod-spec n (implementation-module M n (q .0) (r .0) (r .1)))
   same-facts (Member c v d w) = atC b t g nm c _ _
       (λ m. atV b t g nm v _ _
         (λ k. atC b t g nm d _ _

@@ -24,11 +24,9 @@ use Rattle.text.specs.SameByNames.{at}
 use Rattle.text.specs.Session.{fresh}
 use Rattle.text_theorems.specs.Listed.{Lists, every-of, firsts-map, lists-length, lists-nonEmpty, new-beside, new-beside-no}
 use Rattle.text_theorems.specs.Listed.{new-each, new-once, new-small, seconds-map}
-use Rattle.text_theorems.specs.Places.{length-map}
-use Rattle.text_theorems.specs.ReadsBack.{nonEmpty-map}
 use Rattle.text_theorems.specs.Renamed.{B3-like, B4-like, B5-like, B6-like, B7-like, B8-like, B9-like, Like, Renumbering}
-use Rattle.text_theorems.specs.Renamed.{UsedC, UsedF, UsedI, UsedV, has-map, implementationOf, providedBy, requiredBy}
-use Rattle.text_theorems.specs.Renamed.{versionOf}
+use Rattle.text_theorems.specs.Renamed.{UsedC, UsedF, UsedI, UsedV, implementationOf, providedBy, requiredBy, versionOf}
+use Rattle.text_theorems.specs.TextLaws.{has-map, length-map, nonEmpty-map}
 use Rattle.theorems.specs.Alike.{composed-same, hasVersion-at, isSystem-same, member-same, provides-at, requires-at, standard-at}
 use Rattle.theorems.specs.Alike.{usable-same}
 use Rattle.theorems.specs.Frame.{composition-out, mem-usable}

@@ -7,9 +7,9 @@ use mathlib.Core.Path.{_∙_, _≡_, ap, ap₂, refl, sym}
 use Prim.Native.Nat.{_<_, suc, zero, ℕ}
 use native.Mathlib.Omega.{arith}
 use lib.ListN.{length}
-use Rattle.model.specs.Book.{Specs, Systems, components, composed, facilities, hasVersion, implementation, isMember, isModule}
-use Rattle.model.specs.Book.{isSystem, member, provides, requires, specified, standard, usable, versions}
-use Rattle.model.specs.Lists.{elem, ifFound, nonEmpty}
+use Rattle.model.specs.Book.{Specs, components, composed, facilities, hasVersion, implementation, isMember, isModule, isSystem}
+use Rattle.model.specs.Book.{member, provides, requires, specified, standard, usable, versions}
+use Rattle.model.specs.Lists.{elem, nonEmpty}
 use Rattle.model.specs.Maps.{has, isSome, orElse}
 use Rattle.sets.specs.TestLaws.{==-out, ==-same, all-in, all-out, and-in, and-r, bool?, if-false, if-true, iff→≡, imp-in, imp-out}
 use Rattle.sets.specs.TestLaws.{or-l, or-r}
@@ -26,10 +26,11 @@ use Rattle.text.specs.Written.{systemsFrom, systemsInOrder, written}
 use Rattle.text_theorems.specs.Mentions.{T, cs-lists, impl-some, li-lists, lk-lists, lm-lists, lv-lists, ms-lists, valid-some}
 use Rattle.text_theorems.specs.Mentions.{ys-lists}
 use Rattle.text_theorems.specs.NamedGood.{NamedGood, passes→named}
-use Rattle.text_theorems.specs.Order.{systems-are}
+use Rattle.text_theorems.specs.Order.{from-none, from-some, systems-are}
 use Rattle.text_theorems.specs.Places.{place-name, place-of}
 use Rattle.text_theorems.specs.RoundTrip.{reads-back}
-use Rattle.text_theorems.specs.Unique.{among-names-in, among-names-out, byName-among, byName-rises, map-along, unique}
+use Rattle.text_theorems.specs.TextLaws.{among-names-in, among-names-out, or-at}
+use Rattle.text_theorems.specs.Unique.{byName-among, byName-rises, map-along, unique}
 use Rattle.theorems.specs.Frame.{mem-usable}
 use Rattle.theorems.specs.MapLaws.{has-cong, has-in, has-out, isSome-in, isSome-out}
 
@@ -212,14 +213,6 @@ first-same N N′ test test′ (x ∷ xs) (y ∷ ys) e h =
       ]
     ]
 
-from-none : (n : ℕ) (Y : Systems) (ss out : List ℕ) → firstOf (λ s. ~ (elem s out) & ready Y out s) ss ≡ none → systemsFrom (suc n) Y ss out ≡ []
-unfolding systemsFrom ifFound
-from-none n Y ss out e = ap (λ (o : Option ℕ). ifFound o (λ s. s ∷ systemsFrom n Y ss (s ∷ out))) e
-
-from-some : (n : ℕ) (Y : Systems) (ss out : List ℕ) (x : ℕ) → firstOf (λ s. ~ (elem s out) & ready Y out s) ss ≡ some x → systemsFrom (suc n) Y ss out ≡ x ∷ systemsFrom n Y ss (x ∷ out)
-unfolding systemsFrom ifFound
-from-some n Y ss out x e = ap (λ (o : Option ℕ). ifFound o (λ s. s ∷ systemsFrom n Y ss (s ∷ out))) e
-
 module _ (s s′ : State) (p : NamedGood s) (p′ : NamedGood s′) (F : Same s s′) where
   abbrev S : Specs
   S = s .book .specs
@@ -253,10 +246,6 @@ module _ (s s′ : State) (p : NamedGood s) (p′ : NamedGood s′) (F : Same s 
               let q = facs-same (requires S c v) (requires S′ c′ v′) (useQ s p c v) (useQ s′ p′ c′ v′) (requires-same s s′ p p′ F c c′ k v v′ h h′ w) in
               λ i. (w i, q i)) in
       λ i. SPEC (k .named i) (e₁ i) (e₂ i) (standard-same s s′ p p′ F c c′ k i)
-
-  or-at : (o : Option ℕ) (n : ℕ) → o ≡ some n → orElse o 0 ≡ n
-  unfolding orElse
-  or-at o n e = ap (λ (x : Option ℕ). orElse x 0) e
 
   mod-same : (c c′ : ℕ) → Tw c c′ → isModule (s .book .modules) c ≡ true → isModule (s′ .book .modules) c′ ≡ true → modOf (s .book) (s .tables) c ≡ modOf (s′ .book) (s′ .tables) c′
   unfolding modOf

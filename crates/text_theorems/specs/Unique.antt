@@ -6,7 +6,7 @@ use mathlib.Core.Path.{_∙_, _≡_, ap, ap₂, refl, subst, sym}
 use Prim.Native.Nat.{_<_, suc, ℕ}
 use native.Mathlib.Omega.{arith}
 use lib.ListN.{length}
-use Rattle.model.specs.Lists.{elem, every, nonEmpty, once, rising}
+use Rattle.model.specs.Lists.{elem, every, nonEmpty, once}
 use Rattle.model.specs.Maps.{has}
 use Rattle.sets.specs.TestLaws.{<?-in, <?-no, <?-out, ==-in, ==-out, ==-same, and-in, and-l, and-r, bool?, clash, fails, if-false}
 use Rattle.sets.specs.TestLaws.{if-true, iff→≡, not-out, or-false, or-l, or-out, or-r, same?}
@@ -17,9 +17,9 @@ use Rattle.text.specs.Language.{Name}
 use Rattle.text.specs.Tables.{Table, nameAt, place}
 use Rattle.text.specs.TablesTable.{full}
 use Rattle.text.specs.Written.{before, byName, insert, sorted}
-use Rattle.text_theorems.specs.Listed.{Lists, byName-lists, every-of, from-once, insert-elem, sorted-elem}
-use Rattle.text_theorems.specs.Places.{every-among, place-name, place-of}
-use Rattle.text_theorems.specs.ReadsBack.{same-out, same-refl}
+use Rattle.text_theorems.specs.Listed.{Lists, byName-lists, every-of, insert-elem, rising-once, sorted-elem}
+use Rattle.text_theorems.specs.Places.{place-name, place-of}
+use Rattle.text_theorems.specs.TextLaws.{among-names-in, among-names-out, every-among, same-out, same-refl}
 use Rattle.theorems.specs.MapLaws.{has-in, has-out}
 
 -- ---- the order of names
@@ -131,29 +131,14 @@ sorted-rises t o [] k h = unfold rises in refl
 sorted-rises t o (x ∷ xs) k h =
     insert-rises t o x (sorted t xs) (h x (or-l _ _ (==-same x))) (sorted-elem t x xs ∙ not-out _ (and-l _ _ k)) (sorted-rises t o xs (and-r _ _ k) (λ n e. h n (or-r _ _ e)))
 
-pub among-names-out : (f : ℕ → Name) (l : List ℕ) (w : Name) → among w (map f l) ≡ true → (n : ℕ) × (elem n l ≡ true) × (w ≡ f n)
-unfolding among elem
-among-names-out f [] w a = clash a refl
-among-names-out f (x ∷ xs) w a =
-    elim (or-out _ _ a) [
-      | inl q ↦ (x, or-l _ _ (==-same x), same-out w (f x) q)
-      | inr q ↦ (let r = among-names-out f xs w q in (r .0, or-r _ _ (r .1), r .2))
-    ]
-
-pub among-names-in : (f : ℕ → Name) (l : List ℕ) (n : ℕ) → elem n l ≡ true → among (f n) (map f l) ≡ true
-unfolding elem among
-among-names-in f [] n e = clash e refl
-among-names-in f (x ∷ xs) n e =
-    elim (or-out _ _ e) [ inl q ↦ or-l _ _ (ap (λ (z : ℕ). same (f n) (f z)) (sym (==-out _ _ q)) ∙ same-refl (f n)) | inr q ↦ or-r _ _ (among-names-in f xs n q) ]
-
 -- the names of the numbers that pass a test
 module _ (t : Table) (o : Once t) (L : ℕ) (test : ℕ → Bool) (small : (n : ℕ) → test n ≡ true → n < L) (full : (n : ℕ) → test n ≡ true → nonEmpty (nameAt t n) ≡ true) where
   k : Lists (byName t L test) test
   k = byName-lists t L test small
 
   pub byName-rises : rises (map (nameAt t) (byName t L test)) ≡ true
-  unfolding byName rising
-  byName-rises = sorted-rises t o _ (from-once L 0 test) (λ n e. full n (sym (k .each n) ∙ sorted-elem t n _ ∙ e))
+  unfolding byName
+  byName-rises = sorted-rises t o _ (rising-once L test) (λ n e. full n (sym (k .each n) ∙ sorted-elem t n _ ∙ e))
 
   pub byName-among : (w : Name) → among w (map (nameAt t) (byName t L test)) ≡ has (place t w) test
   byName-among w = iff→≡ _ _

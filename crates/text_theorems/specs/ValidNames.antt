@@ -9,7 +9,7 @@ use lib.ListN.{length}
 use Rattle.model.specs.Lists.{every}
 use Rattle.model.specs.Maps.{andThen, if-there, onlyIf}
 use Rattle.sets.specs.TestLaws.{and-in, and-l, and-r, bool?, if-false, if-true}
-use Rattle.sets.specs.Tests.{_&_, _==_, if_then_else_, ~_}
+use Rattle.sets.specs.Tests.{_&_, _==_, ~_}
 use Rattle.text.specs.Bytes.{Text, alnum, bytes, implByte, isMark, nameByte, nameWord, same, short, validImplementation, validName}
 use Rattle.text.specs.Language.{CHOICE, DELMOD, DELMODVAR, DELSPEC, DELSYS, DELSYSVAR, MOD, MODVAR, NEEDS, Name, NamedMembers, OUT}
 use Rattle.text.specs.Language.{PARTS, Read, Reader, SPEC, STANDARD, SUPPLIES, SYS, SYSVAR, Said, UNDEFINED, UNUSED, WHEREUSED}
@@ -19,7 +19,8 @@ use Rattle.text.specs.Language.{name, nameOf, names, namesUpTo, ofOne, ofPair, 
 use Rattle.text.specs.Language.{said, semicolon, specVersion, standards, sysVersion, theOne, want, when, wrong}
 use Rattle.text.specs.SameByNames.{at}
 use Rattle.text.specs.Tokens.{Next, Token, bad, closing, end, mark, nextToken, quoted, run, skip, skipped, token, tokenAt, word}
-use Rattle.text_theorems.specs.ReadsBack.{every-map, okMod, okVersion}
+use Rattle.text_theorems.specs.ReadsBack.{okMod, okVersion}
+use Rattle.text_theorems.specs.TextLaws.{by-test, every-cons, every-map, every-none}
 
 run-every : (f : ℕ → Bool) (t : Text) → every f (run f t) ≡ true
 unfolding run every
@@ -40,11 +41,6 @@ NextOk (token (quoted w) u) = validImplementation w ≡ true
 NextOk (token (mark c) u) = Unit {0}
 NextOk end = Unit {0}
 NextOk bad = Unit {0}
-
-pub by-test : {A : Type 0} (Q : A → Type 0) (b : Bool) (x y : A) → (b ≡ true → Q x) → Q y → Q (if b then x else y)
-unfolding if_then_else_
-by-test Q true x y p q = p refl
-by-test Q false x y p q = q
 
 closing-ok : (w r : Text) → every implByte w ≡ true → NextOk (closing w r)
 unfolding closing validImplementation
@@ -139,19 +135,11 @@ pub impl-gives : Gives imp validImplementation
 unfolding imp
 impl-gives = record { at = λ t. impl-o (nextToken t) (next-ok t) }
 
-every-cons : {A : Type 0} (Q : A → Bool) (x : A) (xs : List A) → Q x ≡ true → every Q xs ≡ true → every Q (x ∷ xs) ≡ true
-unfolding every
-every-cons Q x xs a b = and-in _ _ a b
-
-every-nil : {A : Type 0} (Q : A → Bool) → every Q [] ≡ true
-unfolding every
-every-nil Q = refl
-
 listIn-gives : {A : Type 0} (n : ℕ) (k : Token) (p : Reader A) (Q : A → Bool) → Gives p Q → Gives (listIn n k p) (every Q)
 unfolding listIn
 listIn-gives zero k p Q e = record { at = λ t. tt }
 listIn-gives (suc n) k p Q e = record { at = λ t. bind-gives p Q (every Q) _ e (λ x a. bind-gives (ahead k) (λ b. true) (every Q) _ (always (ahead k)) (λ on b.
-    bind-gives (when on [] (listIn n k p)) (every Q) (every Q) _ (when-gives (every Q) on [] (listIn n k p) (every-nil Q) (listIn-gives n k p Q e)) (λ xs c. give-gives (every Q) (x ∷ xs) (every-cons Q x xs a c)))) .at t }
+    bind-gives (when on [] (listIn n k p)) (every Q) (every Q) _ (when-gives (every Q) on [] (listIn n k p) (every-none Q) (listIn-gives n k p Q e)) (λ xs c. give-gives (every Q) (x ∷ xs) (every-cons Q x xs a c)))) .at t }
 
 list-gives : {A : Type 0} (k : Token) (p : Reader A) (Q : A → Bool) → Gives p Q → Gives (listOf k p) (every Q)
 unfolding listOf
@@ -163,11 +151,11 @@ names-gives = list-gives comma name validName name-gives
 
 upTo-gives : (k : Token) → Gives (namesUpTo k) (every validName)
 unfolding namesUpTo
-upTo-gives k = bind-gives (ahead k) (λ b. true) _ _ (always _) (λ b e. when-gives (every validName) (~ b) [] _ (every-nil validName) (bind-gives names (every validName) _ _ names-gives (λ xs a. then-gives (want k) _ _ (give-gives _ xs a))))
+upTo-gives k = bind-gives (ahead k) (λ b. true) _ _ (always _) (λ b e. when-gives (every validName) (~ b) [] _ (every-none validName) (bind-gives names (every validName) _ _ names-gives (λ xs a. then-gives (want k) _ _ (give-gives _ xs a))))
 
 req-gives : Gives requirements (every validName)
 unfolding requirements
-req-gives = bind-gives (ahead (key "requires")) (λ b. true) _ _ (always _) (λ b e. when-gives (every validName) b [] names (every-nil validName) names-gives)
+req-gives = bind-gives (ahead (key "requires")) (λ b. true) _ _ (always _) (λ b e. when-gives (every validName) b [] names (every-none validName) names-gives)
 
 pub validPair : Name × Name → Bool
 validPair p = validName (p .0) & validName (p .1)

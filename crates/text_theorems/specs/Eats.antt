@@ -1,15 +1,12 @@
--- Each command is read from the rest of the text after the one before: what a reader leaves is an end of the text, and shorter. So the bounds on lists and sessions bound nothing.
+-- What a reader leaves is an end of the text; what a command leaves is shorter.
 use mathlib.Core.Bool.{Bool, false, true}
-use mathlib.Core.List.{List, [], _++_, _∷_, append-assoc}
+use mathlib.Core.List.{List, [], _∷_}
 use mathlib.Core.Option.{Option, none, some}
-use mathlib.Core.Path.{_∙_, _≡_, ap, refl, sym}
-use Prim.Native.Nat.{_+_, _<_, _≤_, suc, zero, zero-le, ℕ}
-use native.Mathlib.Nat.{le-refl}
-use native.Mathlib.Omega.{arith}
-use lib.ListN.{length, length-append}
+use Prim.Native.Nat.{suc, zero, ℕ}
+use lib.ListN.{length}
 use Rattle.model.specs.Maps.{andThen, onlyIf}
-use Rattle.sets.specs.Tests.{_&_, _==_, _or_, if_then_else_, ~_}
-use Rattle.text.specs.Bytes.{Text, alnum, bytes, implByte, isMark, nameByte, nameWord, same, short, white}
+use Rattle.sets.specs.Tests.{~_}
+use Rattle.text.specs.Bytes.{Text, bytes, nameWord, same}
 use Rattle.text.specs.Language.{DELMOD, DELMODVAR, DELSPEC, DELSYS, DELSYSVAR, NEEDS, Name, OUT, PARTS, Read, Reader, STANDARD}
 use Rattle.text.specs.Language.{SUPPLIES, Said, UNDEFINED, UNUSED, WHEREUSED, _>>=_, _>>_, add-mod, add-modvar, add-spec, add-sys}
 use Rattle.text.specs.Language.{add-sysvar, ahead, aheadOf, byWord, choice, comma, command, commandOf, compo, compos, give, grammar}
@@ -17,106 +14,9 @@ use Rattle.text.specs.Language.{imp, key, listIn, listOf, modVersion, name, nam
 use Rattle.text.specs.Language.{point, quotedOf, readAs, requirements, said, semicolon, specVersion, standards, sysVersion, theOne}
 use Rattle.text.specs.Language.{want, wantOf, when, wrong}
 use Rattle.text.specs.SameByNames.{at}
-use Rattle.text.specs.Session.{State, afterwards, carry, lines, onRead, sessionFrom}
-use Rattle.text.specs.Tokens.{Next, Token, bad, closing, end, isToken, mark, nextToken, past, quoted, run, skip, skipped, token}
-use Rattle.text.specs.Tokens.{tokenAt, word}
-
--- u is the end of t that is left after n bytes at least
-pub record Left (n : ℕ) (t u : Text) : Type 0 where
-  pub front : Text
-  pub is : t ≡ front ++ u
-  pub long : n ≤ length front
-
-pub left-length : {n : ℕ} {t u : Text} → Left n t u → n + length u ≤ length t
-left-length {n} {t} {u} l = let h = l .long in let e = ap length (l .is) ∙ length-append (l .front) u in omega arith
-
-left-all : (t : Text) → Left 0 t t
-left-all t = record { front = []; is = refl; long = zero-le }
-
-left-more : {n : ℕ} {c : ℕ} {t u : Text} → Left n t u → Left (suc n) (c ∷ t) u
-left-more {c = c} l = record { front = c ∷ l .front; is = ap (λ (z : Text). c ∷ z) (l .is); long = (let h = l .long in omega arith) }
-
-left-less : {n : ℕ} {t u : Text} → Left (suc n) t u → Left 0 t u
-left-less l = record { front = l .front; is = l .is; long = zero-le }
-
-left-then : {n m : ℕ} {t u v : Text} → Left n t u → Left m u v → Left n t v
-left-then {v = v} a b = record {
-  front = a .front ++ b .front;
-  is = a .is ∙ ap (λ (z : Text). a .front ++ z) (b .is) ∙ sym (append-assoc (a .front) (b .front) v);
-  long = (let h = a .long in let e = length-append (a .front) (b .front) in omega arith);
-}
-
-left-after : {m : ℕ} {t u v : Text} → Left 0 t u → Left m u v → Left m t v
-left-after {v = v} a b = record {
-  front = a .front ++ b .front;
-  is = a .is ∙ ap (λ (z : Text). a .front ++ z) (b .is) ∙ sym (append-assoc (a .front) (b .front) v);
-  long = (let h = b .long in let e = length-append (a .front) (b .front) in omega arith);
-}
-
--- ---- tokens
-
-abbrev pub LeftO : {A : Type 0} → ℕ → Text → Option (A × Text) → Type 0
-LeftO n t none = Unit {0}
-LeftO n t (some x) = Left n t (x .1)
-
-abbrev LeftT : Text → Option Text → Type 0
-LeftT t none = Unit {0}
-LeftT t (some u) = Left 0 t u
-
-abbrev LeftN : Text → Next → Type 0
-LeftN t (token j u) = Left 1 t u
-LeftN t end = Unit {0}
-LeftN t bad = Unit {0}
-
-more-t : (c : ℕ) (t : Text) (o : Option Text) → LeftT t o → LeftT (c ∷ t) o
-more-t c t none l = tt
-more-t c t (some u) l = left-less (left-more {c = c} l)
-
-by-if : {A : Type 0} (Q : A → Type 0) (b : Bool) (x y : A) → Q x → Q y → Q (if b then x else y)
-unfolding if_then_else_
-by-if Q true x y p q = p
-by-if Q false x y p q = q
-
-skip-left : (b : Bool) (t : Text) → LeftT t (skip b t)
-unfolding skip
-skip-left true [] = tt
-skip-left false [] = left-all []
-skip-left true (c ∷ cs) = more-t c cs (skip (~ (c == 125)) cs) (skip-left (~ (c == 125)) cs)
-skip-left false (c ∷ cs) = by-if (LeftT (c ∷ cs)) (white c or c == 123) _ _ (more-t c cs (skip (c == 123) cs) (skip-left (c == 123) cs)) (left-all (c ∷ cs))
-
-past-left : (f : ℕ → Bool) (t : Text) → Left 0 t (past f t)
-unfolding past
-past-left f [] = left-all []
-past-left f (c ∷ cs) = by-if (λ (u : Text). Left 0 (c ∷ cs) u) (f c) _ _ (left-less (left-more {c = c} (past-left f cs))) (left-all (c ∷ cs))
-
-closing-left : (c : ℕ) (t w r : Text) → Left 0 t r → LeftN (c ∷ t) (closing w r)
-unfolding closing
-closing-left c t w [] l = tt
-closing-left c t w (d ∷ ds) l = by-if (LeftN (c ∷ t)) (d == 34 & short w) _ _ (left-then (left-more {c = c} l) (left-less (left-more {c = d} (left-all ds)))) tt
-
-token-left : (t : Text) → LeftN t (tokenAt t)
-unfolding tokenAt
-token-left [] = tt
-token-left (c ∷ cs) =
-    by-if (LeftN (c ∷ cs)) (alnum c) _ _ (left-more (past-left nameByte cs))
-    (by-if (LeftN (c ∷ cs)) (isMark c) _ _ (left-more (left-all cs))
-    (by-if (LeftN (c ∷ cs)) (c == 34) _ _ (closing-left c cs (run implByte cs) (past implByte cs) (past-left implByte cs)) tt))
-
-skipped-left : (t : Text) (o : Option Text) → LeftT t o → LeftN t (skipped o)
-unfolding skipped
-skipped-left t none l = tt
-skipped-left t (some u) l = after-n (tokenAt u) (token-left u)
-  where
-    after-n : (n : Next) → LeftN u n → LeftN t n
-    after-n (token j v) k = left-after l k
-    after-n end k = tt
-    after-n bad k = tt
-
-pub next-left : (t : Text) → LeftN t (nextToken t)
-unfolding nextToken
-next-left t = skipped-left t (skip false t) (skip-left false t)
-
--- ---- readers
+use Rattle.text.specs.Tokens.{Next, Token, bad, end, isToken, mark, nextToken, quoted, token, word}
+use Rattle.text_theorems.specs.Left.{Left, LeftN, LeftO, left-after, left-all, left-less, left-then, next-left}
+use Rattle.text_theorems.specs.TextLaws.{by-test}
 
 -- a reader leaves an end of the text, after n bytes at least
 pub record Eats {A : Type 0} (n : ℕ) (p : Reader A) : Type 0 where
@@ -152,7 +52,7 @@ give-eats x = record { at = λ t. left-all t }
 
 ahead-left : (k : Token) (t : Text) (n : Next) → LeftN t n → LeftO 0 t (aheadOf k t n)
 unfolding aheadOf
-ahead-left k t (token j u) l = by-if (λ (x : Bool × Text). Left 0 t (x .1)) (isToken k j) _ _ (left-less l) (left-all t)
+ahead-left k t (token j u) l = by-test (λ (x : Bool × Text). Left 0 t (x .1)) (isToken k j) _ _ (λ e. left-less l) (left-all t)
 ahead-left k t end l = left-all t
 ahead-left k t bad l = left-all t
 
@@ -204,7 +104,7 @@ unfolding when
 when-eats true x p e = record { at = λ t. e .at t }
 when-eats false x p e = record { at = λ t. left-all t }
 
-listIn-eats : {A : Type 0} (n : ℕ) (k : Token) (p : Reader A) → Eats 1 p → Eats 1 (listIn n k p)
+pub listIn-eats : {A : Type 0} (n : ℕ) (k : Token) (p : Reader A) → Eats 1 p → Eats 1 (listIn n k p)
 unfolding listIn
 listIn-eats zero k p e = record { at = λ t. tt }
 listIn-eats (suc n) k p e = record { at = λ t. bind-eats 1 p _ e (λ x. bind-eats 0 (ahead k) _ (ahead-eats k) (λ on. bind-eats 0 (when on [] (listIn n k p)) _ (when-eats on [] (listIn n k p) (less (listIn n k p) (listIn-eats n k p e))) (λ xs. give-eats (x ∷ xs)))) .at t }
@@ -212,39 +112,6 @@ listIn-eats (suc n) k p e = record { at = λ t. bind-eats 1 p _ e (λ x. bind-ea
 pub list-eats : {A : Type 0} (k : Token) (p : Reader A) → Eats 1 p → Eats 1 (listOf k p)
 unfolding listOf
 list-eats k p e = record { at = λ t. listIn-eats (length t) k p e .at t }
-
--- ---- the bound on a list bounds nothing
-
-none-of-nothing : {A : Type 0} (o : Option (A × Text)) → LeftO 1 [] o → o ≡ none
-none-of-nothing none l = refl
-none-of-nothing (some x) l = absurd (let h = left-length l in omega arith)
-
-nothing : (t : Text) → length t ≤ 0 → t ≡ []
-nothing [] h = refl
-nothing (c ∷ cs) h = absurd (omega arith)
-
-when-same : {A : Type 0} (b : Bool) (x : A) (p q : Reader A) (t : Text) → p t ≡ q t → when b x p t ≡ when b x q t
-unfolding when
-when-same true x p q t e = e
-when-same false x p q t e = refl
-
-bind-same : {A B : Type 0} (t : Text) (o : Option (A × Text)) (n : ℕ) (f g : A → Reader B) → LeftO n t o → ((a : A) (u : Text) → Left n t u → f a u ≡ g a u) → andThen o (λ x. f (x .0) (x .1)) ≡ andThen o (λ x. g (x .0) (x .1))
-unfolding andThen
-bind-same t none n f g l h = refl
-bind-same t (some x) n f g l h = h (x .0) (x .1) l
-
-list-of-nothing : {A : Type 0} (n : ℕ) (k : Token) (p : Reader A) → Eats 1 p → listIn n k p [] ≡ none
-list-of-nothing n k p e = none-of-nothing (listIn n k p []) (listIn-eats n k p e .at [])
-
-pub list-enough : {A : Type 0} (k : Token) (p : Reader A) → Eats 1 p → (n m : ℕ) (t : Text) → length t ≤ n → length t ≤ m → listIn n k p t ≡ listIn m k p t
-unfolding listIn _>>=_
-list-enough k p e zero zero t a b = refl
-list-enough k p e zero (suc m) t a b = sym (ap (λ (z : Text). listIn (suc m) k p z) (nothing t a) ∙ list-of-nothing (suc m) k p e)
-list-enough k p e (suc n) zero t a b = ap (λ (z : Text). listIn (suc n) k p z) (nothing t b) ∙ list-of-nothing (suc n) k p e
-list-enough k p e (suc n) (suc m) t a b =
-    bind-same t (p t) 1 _ _ (e .at t) (λ x u l. let i = left-length l in
-    bind-same u (ahead k u) 0 _ _ (ahead-eats k .at u) (λ on v j. let i′ = left-length j in
-    ap (λ (o : Option _). andThen o (λ y. give (x ∷ y .0) (y .1))) (when-same on [] (listIn n k p) (listIn m k p) v (list-enough k p e n m v (omega arith) (omega arith)))))
 
 -- ---- the productions
 
@@ -365,7 +232,7 @@ read-left n t (some x) l = l
 word-left : (g : List (Text × Reader Said)) → EatAll g → (w t : Text) → LeftR 0 t (byWord g w t)
 unfolding byWord
 word-left [] e w t = tt
-word-left (x ∷ xs) e w t = by-if (LeftR 0 t) (same w (x .0)) _ _ (read-left 0 t (x .1 t) (e .0 .at t)) (word-left xs (e .1) w t)
+word-left (x ∷ xs) e w t = by-test (LeftR 0 t) (same w (x .0)) _ _ (λ q. read-left 0 t (x .1 t) (e .0 .at t)) (word-left xs (e .1) w t)
 
 after-r : (t u : Text) → Left 1 t u → (r : Read) → LeftR 0 u r → LeftR 1 t r
 after-r t u l (said k v) m = left-then l m
@@ -374,7 +241,7 @@ after-r t u l wrong m = tt
 
 of-left : (t : Text) (n : Next) → LeftN t n → LeftR 1 t (commandOf n)
 unfolding commandOf
-of-left t (token (word w) u) l = by-if (LeftR 1 t) (same w (bytes "quit")) _ _ tt (after-r t u l (byWord grammar w u) (word-left grammar grammar-eats w u))
+of-left t (token (word w) u) l = by-test (LeftR 1 t) (same w (bytes "quit")) _ _ (λ e. tt) (after-r t u l (byWord grammar w u) (word-left grammar grammar-eats w u))
 of-left t (token (quoted w) u) l = tt
 of-left t (token (mark c) u) l = tt
 of-left t end l = tt
@@ -384,39 +251,3 @@ of-left t bad l = tt
 pub command-left : (t : Text) → LeftR 1 t (command t)
 unfolding command
 command-left t = of-left t (nextToken t) (next-left t)
-
--- ---- the bound on a session bounds nothing
-
-read-same : (f g : State → Text → Text × State) (i : ℕ) (s : State) (t : Text) (r : Read) → LeftR 1 t r → ((s : State) (u : Text) → length u < length t → f s u ≡ g s u) → onRead f i s r ≡ onRead g i s r
-unfolding onRead
-read-same f g i s t over l h = refl
-read-same f g i s t wrong l h = refl
-read-same f g i s t (said k u) l h =
-    ap (λ (x : Text × State). (lines i (carry s k) ++ x .0, x .1)) (h (afterwards s (carry s k)) u (let j = left-length l in omega arith))
-
-none-read : (f : State → Text → Text × State) (i : ℕ) (s : State) → onRead f i s (command []) ≡ ([], s)
-unfolding onRead command commandOf nextToken skip skipped tokenAt
-none-read f i s = refl
-
-pub session-enough : (n m i : ℕ) (s : State) (t : Text) → length t ≤ n → length t ≤ m → sessionFrom n i s t ≡ sessionFrom m i s t
-unfolding sessionFrom
-session-enough zero zero i s t a b = refl
-session-enough zero (suc m) i s t a b = sym (ap (λ (z : Text). sessionFrom (suc m) i s z) (nothing t a) ∙ none-read _ i s)
-session-enough (suc n) zero i s t a b = ap (λ (z : Text). sessionFrom (suc n) i s z) (nothing t b) ∙ none-read _ i s
-session-enough (suc n) (suc m) i s t a b = read-same _ _ i s t (command t) (command-left t) (λ s′ u l. session-enough n m (suc i) s′ u (omega arith) (omega arith))
-
--- ---- the two laws without a bound, for code to follow
-
-pub list-step : {A : Type 0} (k : Token) (p : Reader A) → Eats 1 p → (t : Text) → listOf k p t ≡ (p >>= (λ x. ahead k >>= (λ on. when on [] (listOf k p) >>= (λ xs. give (x ∷ xs))))) t
-unfolding listOf listIn _>>=_
-list-step k p e t =
-    list-enough k p e (length t) (suc (length t)) t (le-refl _) (omega arith)
-    ∙ bind-same t (p t) 1 _ _ (e .at t) (λ x u l. let i = left-length l in
-      bind-same u (ahead k u) 0 _ _ (ahead-eats k .at u) (λ on v j. let i′ = left-length j in
-      ap (λ (o : Option _). andThen o (λ y. give (x ∷ y .0) (y .1))) (when-same on [] (listIn (length t) k p) (λ w. listIn (length w) k p w) v (list-enough k p e (length t) (length v) v (omega arith) (le-refl _)))))
-
-pub session-step : (i : ℕ) (s : State) (t : Text) → sessionFrom (length t) i s t ≡ onRead (λ s′ u. sessionFrom (length u) (suc i) s′ u) i s (command t)
-unfolding sessionFrom
-session-step i s t =
-    session-enough (length t) (suc (length t)) i s t (le-refl _) (omega arith)
-    ∙ read-same _ _ i s t (command t) (command-left t) (λ s′ u l. session-enough (length t) (length u) (suc i) s′ u (omega arith) (le-refl _))

@@ -10,7 +10,10 @@ pub mod NewPlaces
 pub mod Numbered
 pub mod Runs
 pub mod Listed
-pub mod Steps
+pub mod Renumbered
+pub mod SpecStep
+pub mod ModStep
+pub mod SysStep
 pub mod Order
 pub mod Mentions
 pub mod Phases

@@ -24,16 +24,18 @@ use Rattle.text.specs.Written.{written}
 use Rattle.text_theorems.specs.Listed.{every-of, lists-nonEmpty}
 use Rattle.text_theorems.specs.Mentions.{T, T-fits, cs-lists, li-lists, lk-lists, lm-lists, lp-lists, lq-lists, lu-lists}
 use Rattle.text_theorems.specs.Mentions.{lv-lists, ms-lists, renumbering, valid-some, ys-lists}
+use Rattle.text_theorems.specs.ModStep.{ModLists, bm, mod-after, mod-yes, modK}
 use Rattle.text_theorems.specs.NewPlaces.{new}
 use Rattle.text_theorems.specs.Numbered.{nMod, nSpec, nSys}
 use Rattle.text_theorems.specs.Order.{Can, systems-all, systems-fine}
 use Rattle.text_theorems.specs.Phases.{Step, list-fine, one-mark, phase, pushed, pushed-in}
 use Rattle.text_theorems.specs.ReadsBack.{Writable, aMod, aSpec, aSys, okMember, okMod, okSys, okVersion}
 use Rattle.text_theorems.specs.Renamed.{Renumbering, UsedC}
+use Rattle.text_theorems.specs.Renumbered.{isModule′, isSystem′, newModules, newSpecs, newSystems, only-all, only-none}
+use Rattle.text_theorems.specs.Renumbered.{specified′}
 use Rattle.text_theorems.specs.Runs.{Plan, plan-append, plan-runs, runs-length, runs-text}
-use Rattle.text_theorems.specs.Steps.{M′, S′, Y′, bm, bs, by, isModule′, isSystem′, mod-after, mod-yes, modK, only-all}
-use Rattle.text_theorems.specs.Steps.{only-none, spec-after, spec-yes, specK, specified′, sys-after, sys-yes, sysK}
-use Rattle.text_theorems.specs.Steps.{sysMembers}
+use Rattle.text_theorems.specs.SpecStep.{SpecLists, bs, spec-after, spec-yes, specK}
+use Rattle.text_theorems.specs.SysStep.{SysLists, by, sys-after, sys-yes, sysK, sysMembers}
 use Rattle.text_theorems.specs.TextLaws.{nonEmpty-map, or-at, same-out}
 use Rattle.theorems.specs.Frame.{composition-out, mem-usable}
 use Rattle.theorems.specs.Good.{Good}
@@ -89,6 +91,31 @@ module _ (b : Book) (t : Tables) (g : Good b) (nm : Named (record { book = b; ta
   abbrev mv : ℕ → ℕ → ℕ → ℕ
   mv s v c = orElse (member Y s v c) 0
 
+  abbrev specLists : (c : ℕ) → SpecLists S c
+  specLists c = record {
+    facs = lp c;
+    vers = lv c;
+    reqs = lq c;
+    facs-all = lp-lists b t g nm c;
+    vers-all = lv-lists b t g nm c;
+    reqs-all = lq-lists b t g nm c;
+  }
+
+  abbrev modLists : (c : ℕ) → ModLists M c
+  modLists c = record { vers = li c; impl = im c; vers-all = li-lists b t g nm c; impl-is = λ v i e. or-at _ i e }
+
+  abbrev sysLists : (s : ℕ) → SysLists Y s
+  sysLists s = record {
+    uses = lu s;
+    vers = lk s;
+    mems = lm s;
+    held = mv s;
+    uses-all = lu-lists b t g nm s;
+    vers-all = lk-lists b t g nm s;
+    mems-all = lm-lists b t g nm s;
+    held-is = λ v c w e. or-at _ w e;
+  }
+
   -- ---- specs
 
   spec-writable : (c : ℕ) → specified S c ≡ true → Writable (specOf b t c)
@@ -111,13 +138,13 @@ module _ (b : Book) (t : Tables) (g : Good b) (nm : Named (record { book = b; ta
   BY = by b g re
 
   abbrev specC : ℕ → Command
-  specC c = specK b g re c (lp c) (lv c) (lq c)
+  specC c = specK b g re c (specLists c)
 
   abbrev modC : ℕ → Command
-  modC c = modK b g re c (li c) (im c)
+  modC c = modK b g re c (modLists c)
 
   abbrev sysC : ℕ → Command
-  sysC s = sysK b g re s (lu s) (lk s) (lm s) (mv s)
+  sysC s = sysK b g re s (sysLists s)
 
   numberedSpec : Name × List Name → ℕ × List ℕ
   numberedSpec x = (number (U .vers) (x .0), map (number (U .facs)) (x .1))
@@ -136,8 +163,8 @@ module _ (b : Book) (t : Tables) (g : Good b) (nm : Named (record { book = b; ta
     K = _;
     writable = spec-writable c (h .0);
     numbered = nSpec;
-    yes′ = ap (answer (BS l)) (spec-numbers c) ∙ spec-yes b g re c (lp c) (lv c) (lq c) l (h .0) (h .1) (lp-lists b t g nm c) (lv-lists b t g nm c) (lq-lists b t g nm c);
-    gives = ap (after (BS l)) (spec-numbers c) ∙ spec-after b g re c (lp c) (lv c) (lq c) l (h .0) (h .1) (lp-lists b t g nm c) (lv-lists b t g nm c) (lq-lists b t g nm c);
+    yes′ = ap (answer (BS l)) (spec-numbers c) ∙ spec-yes b g re c (specLists c) l (h .0) (h .1);
+    gives = ap (after (BS l)) (spec-numbers c) ∙ spec-after b g re c (specLists c) l (h .0) (h .1);
   }
 
   -- ---- modules
@@ -163,8 +190,8 @@ module _ (b : Book) (t : Tables) (g : Good b) (nm : Named (record { book = b; ta
     K = _;
     writable = mod-writable c (h .0);
     numbered = nMod;
-    yes′ = ap (answer (BM l)) (mod-numbers c) ∙ mod-yes b g re c (li c) (im c) l (h .0) (h .1) (li-lists b t g nm c) (λ v i e. or-at _ i e);
-    gives = ap (after (BM l)) (mod-numbers c) ∙ mod-after b g re c (li c) (im c) l (h .0) (h .1) (li-lists b t g nm c) (λ v i e. or-at _ i e);
+    yes′ = ap (answer (BM l)) (mod-numbers c) ∙ mod-yes b g re c (modLists c) l (h .0) (h .1);
+    gives = ap (after (BM l)) (mod-numbers c) ∙ mod-after b g re c (modLists c) l (h .0) (h .1);
   }
 
   -- ---- systems
@@ -204,7 +231,7 @@ module _ (b : Book) (t : Tables) (g : Good b) (nm : Named (record { book = b; ta
   numberedSys : Name × NamedMembers → ℕ × List (ℕ × Option ℕ)
   numberedSys x = (number (U .vers) (x .0), numberedMembers U (x .1))
 
-  members-numbers : (s v : ℕ) → numberedMembers U (membersOf b t s v) ≡ sysMembers b g re (lm s) (mv s) v
+  members-numbers : (s v : ℕ) → numberedMembers U (membersOf b t s v) ≡ sysMembers b g re s (sysLists s) v
   unfolding numberedMembers membersOf sysMembers new numberedMember optionMap
   members-numbers s v = map-map numberedMember (λ c. (nameAt (t .comps) c, some (nameAt (t .vers) (mv s v c)))) (lm s v)
 
@@ -225,8 +252,8 @@ module _ (b : Book) (t : Tables) (g : Good b) (nm : Named (record { book = b; ta
     K = _;
     writable = sys-writable s (h .is);
     numbered = nSys;
-    yes′ = ap (answer (BY l)) (sys-numbers s) ∙ sys-yes b g re s (lu s) (lk s) (lm s) (mv s) l (h .is) (h .new) (h .closed) (lu-lists b t g nm s) (lk-lists b t g nm s) (lm-lists b t g nm s) (λ v c w e. or-at _ w e);
-    gives = ap (after (BY l)) (sys-numbers s) ∙ sys-after b g re s (lu s) (lk s) (lm s) (mv s) l (h .is) (h .new) (h .closed) (lu-lists b t g nm s) (lk-lists b t g nm s) (lm-lists b t g nm s) (λ v c w e. or-at _ w e);
+    yes′ = ap (answer (BY l)) (sys-numbers s) ∙ sys-yes b g re s (sysLists s) l (h .is) (h .new) (h .closed);
+    gives = ap (after (BY l)) (sys-numbers s) ∙ sys-after b g re s (sysLists s) l (h .is) (h .new) (h .closed);
   }
 
   -- ---- all of it
@@ -241,13 +268,13 @@ module _ (b : Book) (t : Tables) (g : Good b) (nm : Named (record { book = b; ta
   ss = systemsFrom components Y (byName (t .comps) components (isSystem Y)) []
 
   abbrev PS : Specs
-  PS = S′ b g re
+  PS = newSpecs b re
 
   abbrev PM : Modules
-  PM = M′ b g re
+  PM = newModules b re
 
   abbrev PY : Systems
-  PY = Y′ b g re
+  PY = newSystems b re
 
   -- the book that is reached: the same under the new numbers
   abbrev pub rebuilt : Book
@@ -263,20 +290,20 @@ module _ (b : Book) (t : Tables) (g : Good b) (nm : Named (record { book = b; ta
   specs-done : BS (pushed gc cs []) ≡ BM []
   unfolding bs bm
   specs-done =
-      let e = only-all (pushed gc cs []) PS (λ m k. back-in (specified S) (λ n z. z) cs (λ n z. cs-lists b t g nm .each n ∙ z) m (sym (specified′ b g re m) ∙ (unfold specified in k))) in
+      let e = only-all (pushed gc cs []) PS (λ m k. back-in (specified S) (λ n z. z) cs (λ n z. cs-lists b t g nm .each n ∙ z) m (sym (specified′ b re m) ∙ (unfold specified in k))) in
       λ i. record { specs = e i; modules = sym (only-none PM) i; systems = λ c. none }
 
   modules-done : BM (pushed gc ms []) ≡ BY []
   unfolding bm by
   modules-done =
-      let e = only-all (pushed gc ms []) PM (λ m k. back-in (isModule M) (λ n z. g .b2 .mod-spec n z) ms (λ n z. ms-lists b t g nm .each n ∙ z) m (sym (isModule′ b g re m) ∙ (unfold isModule in k))) in
+      let e = only-all (pushed gc ms []) PM (λ m k. back-in (isModule M) (λ n z. g .b2 .mod-spec n z) ms (λ n z. ms-lists b t g nm .each n ∙ z) m (sym (isModule′ b re m) ∙ (unfold isModule in k))) in
       λ i. record { specs = PS; modules = e i; systems = sym (only-none PY) i }
 
   systems-done : BY (pushed gc ss []) ≡ rebuilt
   unfolding by
   systems-done =
       let e = only-all (pushed gc ss []) PY (λ m k. back-in (isSystem Y) (λ n z. g .b2 .sys-spec n z) ss
-            (λ n z. systems-all b g (byName (t .comps) components (isSystem Y)) (ys-lists b t g nm) re n z) m (sym (isSystem′ b g re m) ∙ (unfold isSystem in k))) in
+            (λ n z. systems-all b g (byName (t .comps) components (isSystem Y)) (ys-lists b t g nm) re n z) m (sym (isSystem′ b re m) ∙ (unfold isSystem in k))) in
       λ i. record { specs = PS; modules = PM; systems = e i }
 
   specs-plan : Plan U empty (map (specOf b t) cs) (BM [])

@@ -1,0 +1,278 @@
+-- A system under other numbers goes into the book, after its usable systems: its command is accepted.
+-- names: yes-all none-left isSystem-same usable-same composed-same member-same
+use mathlib.Core.Bool.{false, true}
+use mathlib.Core.List.{List, _∷_, map}
+use mathlib.Core.Logic.{inl, inr}
+use mathlib.Core.Option.{Option, some}
+use mathlib.Core.Path.{_∙_, _≡_, ap, fun-ext, refl, sym}
+use Prim.Native.Nat.{ℕ}
+use Rattle.model.specs.Book.{Book, Modules, Specs, System, Systems, components, composed, composition, hasVersion, isMember}
+use Rattle.model.specs.Book.{isModule, isSystem, member, requires, specified, standard, usable, versions}
+use Rattle.model.specs.Commands.{ADD-SYS, Command, Members, after, stored}
+use Rattle.model.specs.Lists.{beside, elem, every, firsts, nonEmpty, once, setOf}
+use Rattle.model.specs.Maps.{Map, has, if-there, isSome, optionMap, orElse}
+use Rattle.model.specs.PlainBook.{answer}
+use Rattle.model.specs.Questions.{eachBelow, exactly, inLimits, memberBelow, noRequirements, questions}
+use Rattle.model.specs.Rules.{B3, B4, B5, B5-to-B9, B5at}
+use Rattle.sets.specs.TestLaws.{<?-in, all-in, and-in, and-l, any-out, bool?, clash, fails, iff-in, not-in}
+use Rattle.sets.specs.Tests.{_<?_}
+use Rattle.text.specs.SameByNames.{at}
+use Rattle.text.specs.Session.{fresh}
+use Rattle.text_theorems.specs.Listed.{Lists, every-of, firsts-map, lists-nonEmpty, new-beside, new-beside-no, new-each}
+use Rattle.text_theorems.specs.Listed.{new-once, new-small, seconds-map}
+use Rattle.text_theorems.specs.ModStep.{is-undefined}
+use Rattle.text_theorems.specs.Renamed.{B3-like, B4-like, B5-like, B6-like, B7-like, B8-like, B9-like, Like, Renumbering}
+use Rattle.text_theorems.specs.Renamed.{UsedC, UsedV, versionOf}
+use Rattle.text_theorems.specs.Renumbered.{composed′, hasVersion′, isModule′, isSystem′, member′, newModules, newSpecs}
+use Rattle.text_theorems.specs.Renumbered.{newSystems, only, only-in, only-out, provides′, pullSystem, put-only, requires′}
+use Rattle.text_theorems.specs.Renumbered.{specified′, usable′}
+use Rattle.text_theorems.specs.TextLaws.{nonEmpty-map}
+use Rattle.theorems.specs.Alike.{composed-same, isSystem-same, member-same, usable-same}
+use Rattle.theorems.specs.Frame.{composition-out, mem-usable}
+use Rattle.theorems.specs.Good.{Good}
+use Rattle.theorems.specs.MapLaws.{andThen-in, isSome-no, isSome-out}
+use Rattle.theorems.specs.Meaning.{no-no}
+use Rattle.theorems.specs.Notions.{none-left, yes-all}
+
+-- lists of what a system may use, of its versions and of the members of each, with the version of each member
+pub record SysLists (Y : Systems) (s : ℕ) : Type 0 where
+  pub uses : List ℕ
+  pub vers : List ℕ
+  pub mems : ℕ → List ℕ
+  pub held : ℕ → ℕ → ℕ
+  pub uses-all : Lists uses (usable Y s)
+  pub vers-all : Lists vers (composed Y s)
+  pub mems-all : (v : ℕ) → Lists (mems v) (isMember Y s v)
+  pub held-is : (v c w : ℕ) → member Y s v c ≡ some w → held v c ≡ w
+
+module _ (b : Book) (g : Good b) (re : Renumbering (b .specs) (b .modules)) where
+  abbrev S : Specs
+  S = b .specs
+
+  abbrev M : Modules
+  M = b .modules
+
+  abbrev Y : Systems
+  Y = b .systems
+
+  abbrev S′ : Specs
+  S′ = newSpecs b re
+
+  abbrev M′ : Modules
+  M′ = newModules b re
+
+  abbrev Y′ : Systems
+  Y′ = newSystems b re
+
+  abbrev fc : ℕ → ℕ
+  fc = re .fc
+
+  abbrev gc : ℕ → ℕ
+  gc = re .gc
+
+  abbrev fv : ℕ → ℕ
+  fv = re .fv
+
+  abbrev gv : ℕ → ℕ
+  gv = re .gv
+
+  abbrev ff : ℕ → ℕ
+  ff = re .ff
+
+  -- specs and modules are in, and the systems at the new numbers of l
+  unfoldable pub by : List ℕ → Book
+  by l = record { specs = S′; modules = M′; systems = only l Y′ }
+
+  none-yet : (l : List ℕ) (s : ℕ) → elem s l ≡ false → isSystem (only l Y′) s ≡ false
+  unfolding isSystem isSome
+  none-yet l s q = ap isSome (only-out l Y′ s q)
+
+  -- the usable systems of each system in the list are in the list
+  abbrev pub Closed : List ℕ → Type 0
+  Closed l = (s c : ℕ) → elem s l ≡ true → usable Y (fc s) (fc c) ≡ true → isSystem Y (fc c) ≡ true → elem c l ≡ true
+
+  module _ (l : List ℕ) (closed : Closed l) where
+    listed : (s : ℕ) → isSystem (only l Y′) s ≡ true → elem s l ≡ true
+    unfolding isSystem
+    listed s e = elim (bool? (elem s l)) [ inl q ↦ q | inr q ↦ clash e (ap isSome (only-out l Y′ s q) ∙ (unfold isSome in refl)) ]
+
+    same-at : (s : ℕ) → isSystem (only l Y′) s ≡ true → only l Y′ s ≡ Y′ s
+    same-at s e = only-in l Y′ s (listed s e)
+
+    pub like : Like S S′ M Y (only l Y′) re
+    like = record {
+      prov = provides′ b re;
+      vers = hasVersion′ b re;
+      req = requires′ b re;
+      sys = λ s y. sym (isSystem-same Y′ (only l Y′) s (same-at s y) ∙ isSystem′ b re s) ∙ y;
+      uses = λ s c y. usable-same Y′ (only l Y′) s (same-at s y) c ∙ usable′ b re s c;
+      comps = λ s v y. composed-same Y′ (only l Y′) s (same-at s y) v ∙ composed′ b re s v;
+      members = λ s v c y. member-same Y′ (only l Y′) s (same-at s y) v c ∙ member′ b re s v c;
+      kind = λ s c y u. elim (bool? (elem c l)) [
+        | inl q ↦ isSystem-same Y′ (only l Y′) c (only-in l Y′ c q) ∙ isSystem′ b re c
+        | inr q ↦ none-yet l c q ∙ sym (fails _ (λ k. clash {A = ⊥} (closed s c (listed s y) u k) q))
+      ];
+    }
+
+    pub keeps3 : B3 S′ (only l Y′) ≡ true
+    keeps3 = B3-like b g S′ (only l Y′) re like
+
+    pub keeps4 : B4 (only l Y′) ≡ true
+    keeps4 = B4-like b g S′ (only l Y′) re like
+
+    pub keeps5-9 : B5-to-B9 (by l) ≡ true
+    unfolding B5-to-B9 by
+    keeps5-9 =
+        and-in _ _ (B5-like b g S′ (only l Y′) re like)
+        (and-in _ _ (B6-like b g S′ (only l Y′) re like)
+        (and-in _ _ (B7-like b g S′ (only l Y′) re like)
+        (and-in _ _ (B8-like b g S′ (only l Y′) re like)
+        (B9-like b g S′ (only l Y′) re like))))
+
+  unfoldable pub sysMembers : (s : ℕ) → SysLists Y s → ℕ → Members
+  sysMembers s ls v = map (λ c. (gc c, some (gv (ls .held v c)))) (ls .mems v)
+
+  unfoldable pub sysK : (s : ℕ) → SysLists Y s → Command
+  sysK s ls = ADD-SYS (gc s) (map gc (ls .uses)) (map (λ v. (gv v, sysMembers s ls v)) (ls .vers))
+
+  system-new : (s : ℕ) (y : System) → specified S s ≡ true → Y s ≡ some y → Y′ (gc s) ≡ some (pullSystem fc fv gv y)
+  unfolding newSystems optionMap
+  system-new s y there e = ap (λ (k : ℕ). optionMap (pullSystem fc fv gv) (Y k)) (re .ofC .back s there) ∙ ap (optionMap (pullSystem fc fv gv)) e
+
+  module _ (s : ℕ) (ls : SysLists Y s) (l : List ℕ) (there : isSystem Y s ≡ true) (fresh : elem (gc s) l ≡ false) (closed : Closed (gc s ∷ l)) where
+    abbrev lu : List ℕ
+    lu = ls .uses
+
+    abbrev lv : List ℕ
+    lv = ls .vers
+
+    abbrev lm : ℕ → List ℕ
+    lm = ls .mems
+
+    abbrev mv : ℕ → ℕ → ℕ
+    mv = ls .held
+
+    ku : Lists lu (usable Y s)
+    ku = ls .uses-all
+
+    kv : Lists lv (composed Y s)
+    kv = ls .vers-all
+
+    km : (v : ℕ) → Lists (lm v) (isMember Y s v)
+    km = ls .mems-all
+
+    kw : (v c w : ℕ) → member Y s v c ≡ some w → mv v c ≡ w
+    kw = ls .held-is
+
+    sysSpec : specified S s ≡ true
+    sysSpec = g .b2 .sys-spec s there
+
+    back-s : fc (gc s) ≡ s
+    back-s = re .ofC .back s sysSpec
+
+    sysU : (c : ℕ) → usable Y s c ≡ true → UsedC S c
+    sysU c u = g .b2 .use-spec s c u
+
+    sysV : (v : ℕ) → composed Y s v ≡ true → UsedV S v
+    sysV v e = versionOf s (sym (g .b2 .sys-covers s v there) ∙ e)
+
+    memC : (v c : ℕ) → isMember Y s v c ≡ true → UsedC S c
+    unfolding isMember
+    memC v c e = let q = isSome-out _ e in sysU c (mem-usable S Y (g .systemLimits) (g .b5) s v c (q .0) (q .1) .0)
+
+    memV : (v c : ℕ) → isMember Y s v c ≡ true → UsedV S (mv v c)
+    unfolding isMember
+    memV v c e = let q = isSome-out _ e in versionOf c (ap (hasVersion S c) (kw v c (q .0) (q .1)) ∙ mem-usable S Y (g .systemLimits) (g .b5) s v c (q .0) (q .1) .1)
+
+    has-member : (v : ℕ) → composed Y s v ≡ true → nonEmpty (lm v) ≡ true
+    unfolding B5 B5at
+    has-member v e = let q = any-out _ _ (and-l _ _ (composition-out Y (B5at S Y) (g .systemLimits) (g .b5) s v e)) in lists-nonEmpty (lm v) _ (km v) (q .0) (q .2)
+
+    member-small : (v : ℕ) → every memberBelow (sysMembers s ls v) ≡ true
+    unfolding sysMembers memberBelow if-there
+    member-small v = every-of _ _ (lm v) (λ c e.
+        let h = sym (km v .each c) ∙ e in and-in _ _ (<?-in _ _ (re .ofC .small c (memC v c h))) (<?-in _ _ (re .ofV .small (mv v c) (memV v c h))))
+
+    member-once : (v : ℕ) → once (firsts (sysMembers s ls v)) ≡ true
+    unfolding sysMembers
+    member-once v = ap once (firsts-map gc _ (lm v)) ∙ new-once fc gc components (UsedC S) (re .ofC) (lm v) _ (km v) (memC v)
+
+    member-some : (v : ℕ) → composed Y s v ≡ true → nonEmpty (sysMembers s ls v) ≡ true
+    unfolding sysMembers
+    member-some v e = nonEmpty-map _ (lm v) (has-member v e)
+
+    -- a composition
+    comp-at : (v : ℕ) (m : Map ℕ) → composition Y s v ≡ some m → stored S′ (sysMembers s ls v) ≡ (λ c. optionMap gv (m (fc c)))
+    unfolding stored sysMembers optionMap orElse isMember
+    comp-at v m e = fun-ext (λ c.
+        let at : member Y s v (fc c) ≡ m (fc c) = unfold member in andThen-in _ _ m e in
+        elim (bool? (isMember Y s v (fc c))) [
+          | inl h ↦ (let q = isSome-out (member Y s v (fc c)) h in
+              ap (optionMap (λ (w : Option ℕ). orElse w (standard S′ c))) (new-beside fc gc components (UsedC S) (re .ofC) (lm v) _ (km v) (memC v) (λ c. some (gv (mv v c))) c h)
+              ∙ ap (λ (z : ℕ). some (gv z)) (kw v (fc c) (q .0) (q .1)) ∙ sym (ap (optionMap gv) (sym at ∙ q .1)))
+          | inr h ↦ ap (optionMap (λ (w : Option ℕ). orElse w (standard S′ c))) (new-beside-no fc gc components (UsedC S) (re .ofC) (lm v) _ (km v) (memC v) (λ c. some (gv (mv v c))) c h)
+              ∙ sym (ap (optionMap gv) (sym at ∙ isSome-no (member Y s v (fc c)) h))
+        ])
+
+    comp-new : (y : System) → Y s ≡ some y → (v : ℕ) → optionMap (stored S′) (beside (map (λ v. (gv v, sysMembers s ls v)) lv) v) ≡ optionMap (λ m c. optionMap gv (m (fc c))) (y .comp (fv v))
+    unfolding optionMap composed
+    comp-new y e v =
+        let at : composition Y s (fv v) ≡ y .comp (fv v) = unfold composition in andThen-in _ _ y e in
+        elim (bool? (composed Y s (fv v))) [
+          | inl h ↦ (let q = isSome-out (composition Y s (fv v)) h in
+              ap (optionMap (stored S′)) (new-beside fv gv versions (UsedV S) (re .ofV) lv _ kv sysV (sysMembers s ls) v h)
+              ∙ ap some (comp-at (fv v) (q .0) (q .1)) ∙ sym (ap (optionMap {B = Map ℕ} (λ m c. optionMap gv (m (fc c)))) (sym at ∙ q .1)))
+          | inr h ↦ ap (optionMap (stored S′)) (new-beside-no fv gv versions (UsedV S) (re .ofV) lv _ kv sysV (sysMembers s ls) v h)
+              ∙ sym (ap (optionMap {B = Map ℕ} (λ m c. optionMap gv (m (fc c)))) (sym at ∙ isSome-no (composition Y s (fv v)) h))
+        ]
+
+    uses-at : (y : System) → Y s ≡ some y → (c : ℕ) → usable Y s c ≡ y .uses c
+    unfolding usable has
+    uses-at y e c = ap (λ (o : Option System). has o (λ y. y .uses c)) e
+
+    pub sys-after : after (by l) (sysK s ls) ≡ by (gc s ∷ l)
+    unfolding after sysK by pullSystem setOf
+    sys-after =
+        let q = isSome-out (Y s) (unfold isSystem in there) in
+        let y : System = record { uses = setOf (map gc lu); comp = λ v. optionMap (stored S′) (beside (map (λ v. (gv v, sysMembers s ls v)) lv) v) } in
+        let z : y ≡ pullSystem fc fv gv (q .0) = λ i. record {
+          uses = λ c. (new-each fc gc components (UsedC S) (re .ofC) lu _ ku sysU c ∙ uses-at (q .0) (q .1) (fc c)) i;
+          comp = λ v. comp-new (q .0) (q .1) v i;
+        } in
+        let w : Y′ (gc s) ≡ some y = system-new s (q .0) sysSpec (q .1) ∙ ap {A = System} {B = Option System} some (sym z) in
+        λ i. record { specs = S′; modules = M′; systems = put-only l Y′ (gc s) y w i }
+
+    system-after : after (by l) (sysK s ls) .systems ≡ only (gc s ∷ l) Y′
+    system-after = unfold by in ap (λ (x : Book). x .systems) sys-after
+
+    specs-after : after (by l) (sysK s ls) .specs ≡ S′
+    specs-after = unfold by in ap (λ (x : Book). x .specs) sys-after
+
+    sys-small : inLimits (sysK s ls) ≡ true
+    unfolding inLimits sysK eachBelow
+    sys-small =
+        and-in _ _ (<?-in _ _ (re .ofC .small s sysSpec))
+        (and-in _ _ (new-small fc gc components (UsedC S) (re .ofC) lu _ ku sysU)
+        (and-in _ _ (ap (every (λ x. x <? versions)) (firsts-map gv _ lv) ∙ new-small fv gv versions (UsedV S) (re .ofV) lv _ kv sysV)
+        (ap (every (every memberBelow)) (seconds-map gv _ lv) ∙ every-of _ _ lv (λ v e. member-small v))))
+
+    no-module : isModule M s ≡ false
+    no-module = fails _ (λ m. clash {A = ⊥} there (g .b2 .mod-sys s m))
+
+    pub sys-yes : answer (by l) (sysK s ls) ≡ 0
+    unfolding answer questions sysK by exactly noRequirements
+    sys-yes = no-no
+        (yes-all (sys-small)
+        (yes-all (and-in _ _ (nonEmpty-map _ lv (lists-nonEmpty lv _ kv (standard S s) (g .b2 .sys-covers s (standard S s) there ∙ g .b1 .std-in s sysSpec)))
+          (ap (every nonEmpty) (seconds-map gv _ lv) ∙ every-of _ _ lv (λ v e. member-some v (sym (kv .each v) ∙ e))))
+        (yes-all (and-in _ _ (ap once (firsts-map gv _ lv) ∙ new-once fv gv versions (UsedV S) (re .ofV) lv _ kv sysV)
+          (and-in _ _ (new-once fc gc components (UsedC S) (re .ofC) lu _ ku sysU) (ap (every (λ ms. once (firsts ms))) (seconds-map gv _ lv) ∙ every-of _ _ lv (λ v e. member-once v))))
+        (yes-all (specified′ b re (gc s) ∙ ap (specified S) back-s ∙ sysSpec)
+        (yes-all (is-undefined M′ (only l Y′) (gc s) (isModule′ b re (gc s) ∙ ap (isModule M) back-s ∙ no-module) (none-yet l (gc s) fresh))
+        (yes-all (all-in _ _ (λ v k. iff-in _ _ (ap (elem v) (firsts-map gv _ lv) ∙ new-each fv gv versions (UsedV S) (re .ofV) lv _ kv sysV v ∙ g .b2 .sys-covers s (fv v) there ∙ ap (λ (z : ℕ). hasVersion S z (fv v)) (sym back-s) ∙ sym (hasVersion′ b re (gc s) v))))
+        (yes-all (all-in _ _ (λ v k. all-in _ _ (λ f j. not-in _ (requires′ b re (gc s) v f ∙ ap (λ (z : ℕ). requires S z (fv v) (ff f)) back-s ∙ g .b2 .sys-bare s (fv v) (ff f) there))))
+        (yes-all (every-of _ gc lu (λ c e. let u = sysU c (sym (ku .each c) ∙ e) in specified′ b re (gc c) ∙ ap (specified S) (re .ofC .back c u) ∙ u))
+        (yes-all (ap (B3 S′) system-after ∙ keeps3 (gc s ∷ l) closed)
+        (yes-all (ap B4 system-after ∙ keeps4 (gc s ∷ l) closed)
+        (yes-all (ap B5-to-B9 sys-after ∙ keeps5-9 (gc s ∷ l) closed)
+        none-left)))))))))))

@@ -16,6 +16,7 @@ pub mod ModStep
 pub mod SysStep
 pub mod Order
 pub mod Mentions
+pub mod NewNumbers
 pub mod Phases
 pub mod Rebuilt
 pub mod RoundTrip

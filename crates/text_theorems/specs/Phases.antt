@@ -13,7 +13,7 @@ use Rattle.sets.specs.TestLaws.{or-false, or-l, or-out, or-r}
 use Rattle.text.specs.Bytes.{same}
 use Rattle.text.specs.Language.{Name, Said, standards}
 use Rattle.text.specs.Tables.{Tables}
-use Rattle.text_theorems.specs.Mentions.{T, fc, gc}
+use Rattle.text_theorems.specs.NewNumbers.{T, fc, gc}
 use Rattle.text_theorems.specs.Numbered.{Numbered}
 use Rattle.text_theorems.specs.Order.{Can, Fine, none-left, one-more}
 use Rattle.text_theorems.specs.ReadsBack.{Writable, flag}

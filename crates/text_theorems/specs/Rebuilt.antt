@@ -22,9 +22,10 @@ use Rattle.text.specs.Tables.{Tables, modNumbered, nameAt, noNames, number, num
 use Rattle.text.specs.Written.{asCommands, byName, facilityNames, membersOf, modOf, specOf, sysOf, systemsFrom, systemsInOrder}
 use Rattle.text.specs.Written.{written}
 use Rattle.text_theorems.specs.Listed.{every-of, lists-nonEmpty}
-use Rattle.text_theorems.specs.Mentions.{T, T-fits, cs-lists, li-lists, lk-lists, lm-lists, lp-lists, lq-lists, lu-lists}
-use Rattle.text_theorems.specs.Mentions.{lv-lists, ms-lists, renumbering, valid-some, ys-lists}
+use Rattle.text_theorems.specs.Mentions.{cs-lists, li-lists, lk-lists, lm-lists, lp-lists, lq-lists, lu-lists, lv-lists}
+use Rattle.text_theorems.specs.Mentions.{ms-lists, valid-some, ys-lists}
 use Rattle.text_theorems.specs.ModStep.{ModLists, bm, mod-after, mod-yes, modK}
+use Rattle.text_theorems.specs.NewNumbers.{T, T-fits, renumbering}
 use Rattle.text_theorems.specs.NewPlaces.{new}
 use Rattle.text_theorems.specs.Numbered.{nMod, nSpec, nSys}
 use Rattle.text_theorems.specs.Order.{Can, systems-all, systems-fine}

@@ -18,8 +18,8 @@ use Rattle.text.specs.Session.{State, session}
 use Rattle.text.specs.Tables.{Table, Tables, place}
 use Rattle.text.specs.Written.{asCommands}
 use Rattle.text_theorems.specs.BookLaws.{implementation-module, provides-specified}
-use Rattle.text_theorems.specs.Mentions.{T, atC, atF, atI, atV, renumbering}
 use Rattle.text_theorems.specs.NamedGood.{passes→named}
+use Rattle.text_theorems.specs.NewNumbers.{T, atC, atF, atI, atV, renumbering}
 use Rattle.text_theorems.specs.NewPlaces.{eq-through}
 use Rattle.text_theorems.specs.Rebuilt.{rebuilt, text-read}
 use Rattle.text_theorems.specs.Renamed.{Renumbering, implementationOf, providedBy, requiredBy, versionOf}

@@ -23,9 +23,10 @@ use Rattle.text.specs.Session.{State, session}
 use Rattle.text.specs.Tables.{Table, joined, nameAt, place}
 use Rattle.text.specs.Written.{asCommands, byName, facilityNames, firstOf, line, membersOf, modOf, ready, specOf, sysOf}
 use Rattle.text.specs.Written.{systemsFrom, systemsInOrder, written}
-use Rattle.text_theorems.specs.Mentions.{T, cs-lists, impl-some, li-lists, lk-lists, lm-lists, lv-lists, ms-lists, valid-some}
+use Rattle.text_theorems.specs.Mentions.{cs-lists, impl-some, li-lists, lk-lists, lm-lists, lv-lists, ms-lists, valid-some}
 use Rattle.text_theorems.specs.Mentions.{ys-lists}
 use Rattle.text_theorems.specs.NamedGood.{NamedGood, passes→named}
+use Rattle.text_theorems.specs.NewNumbers.{T}
 use Rattle.text_theorems.specs.Order.{from-none, from-some, systems-are}
 use Rattle.text_theorems.specs.Places.{place-name, place-of}
 use Rattle.text_theorems.specs.RoundTrip.{reads-back}

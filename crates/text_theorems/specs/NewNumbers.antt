@@ -1,0 +1,223 @@
+-- The tables that a session reaches on the text of a book, and the numbers in them: a place for each number of the book.
+use mathlib.Core.Bool.{Bool, true}
+use mathlib.Core.List.{List, [], map}
+use mathlib.Core.Option.{Option, some}
+use mathlib.Core.Path.{_∙_, _≡_, ap, refl, subst}
+use Prim.Native.Nat.{_<_, ℕ}
+use Rattle.model.specs.Book.{Book, Modules, Specs, components, facilities, hasVersion, implementation, implementations, isModule}
+use Rattle.model.specs.Book.{provides, requires, specified, versions}
+use Rattle.model.specs.Lists.{every, nonEmpty}
+use Rattle.model.specs.Maps.{has, isSome, orElse}
+use Rattle.sets.specs.TestLaws.{<?-in, and-in, or-l, ≤?-in}
+use Rattle.text.specs.Bytes.{among}
+use Rattle.text.specs.Handed.{Named}
+use Rattle.text.specs.Language.{Name}
+use Rattle.text.specs.Tables.{Table, Tables, enter, fits, joined, modNames, nameAt, noNames, place, specNames}
+use Rattle.text.specs.Written.{asCommands, byName, facilityNames, modOf, specOf}
+use Rattle.text_theorems.specs.BookLaws.{implementation-module, provides-specified}
+use Rattle.text_theorems.specs.Mentions.{EachName, all-pass, among-map, among-of, among-seg1, among-seg2, cs-lists}
+use Rattle.text_theorems.specs.Mentions.{entered-comps, entered-facs, entered-impls, entered-vers, impl-some, li-lists}
+use Rattle.text_theorems.specs.Mentions.{lp-lists, lq-lists, lv-lists, ms-lists, valid-some}
+use Rattle.text_theorems.specs.NewPlaces.{at-through, new, old, renaming}
+use Rattle.text_theorems.specs.Numbered.{mentioned}
+use Rattle.text_theorems.specs.Places.{among-l, among-r, apart, enter-apart, enter-every, enter-has, known, known-fits}
+use Rattle.text_theorems.specs.Places.{place-of}
+use Rattle.text_theorems.specs.Renamed.{Renaming, Renumbering, UsedC, UsedF, UsedI, UsedV, implementationOf, providedBy}
+use Rattle.text_theorems.specs.Renamed.{requiredBy, versionOf}
+use Rattle.text_theorems.specs.Runs.{allEntered}
+use Rattle.text_theorems.specs.TextLaws.{among-names-in, every-among, every-none, same-refl}
+use Rattle.theorems.specs.Good.{Good, requires-version, version-specified}
+use Rattle.theorems.specs.MapLaws.{has-in, isSome-in}
+use contract.Running.{tables}
+
+module _ (b : Book) (t : Tables) (g : Good b) (nm : Named (record { book = b; tables = t })) where
+  abbrev S : Specs
+  S = b .specs
+
+  abbrev M : Modules
+  M = b .modules
+
+  -- each name in the book has a number below its limit
+  known-names : EachName b t g nm (known (t .comps) components) (known (t .vers) versions) (known (t .facs) facilities)
+      (known (t .impls) implementations)
+  unfolding known
+  known-names = record {
+    component = λ c e. has-in _ _ c (place-of _ (nm .comps-once) c (valid-some _ (nm .component c e))) (<?-in _ _ (g .specLimits .component< c e));
+    version = λ c v e. has-in _ _ v (place-of _ (nm .vers-once) v (valid-some _ (nm .version c v e))) (<?-in _ _ (g .specLimits .version< c v e));
+    provided = λ c f e. has-in _ _ f (place-of _ (nm .facs-once) f (valid-some _ (nm .provided c f e))) (<?-in _ _ (g .specLimits .provided< c f e));
+    required = λ c v f e. has-in _ _ f (place-of _ (nm .facs-once) f (valid-some _ (nm .required c v f e))) (<?-in _ _ (g .specLimits .required< c v f e));
+    implemented = λ c v i e. has-in _ _ i (place-of _ (nm .impls-once) i (impl-some _ (nm .implemented c v i e))) (<?-in _ _ (g .moduleLimits .implementation< c v i e .1));
+  }
+
+  unfoldable pub T : Tables
+  T = allEntered noNames (asCommands b t)
+
+  -- each name that is reached is known in t
+  comps-known : every (known (t .comps) components) (T .comps) ≡ true
+  unfolding T
+  comps-known = ap (every (known (t .comps) components)) (entered-comps noNames _) ∙ enter-every _ [] _ (every-none _)
+      (all-pass b t g nm _ _ _ _ known-names (λ m. m .comps) _ (λ k p. p .comps))
+
+  vers-known : every (known (t .vers) versions) (T .vers) ≡ true
+  unfolding T
+  vers-known = ap (every (known (t .vers) versions)) (entered-vers noNames _) ∙ enter-every _ [] _ (every-none _)
+      (all-pass b t g nm _ _ _ _ known-names (λ m. m .vers) _ (λ k p. p .vers))
+
+  facs-known : every (known (t .facs) facilities) (T .facs) ≡ true
+  unfolding T
+  facs-known = ap (every (known (t .facs) facilities)) (entered-facs noNames _) ∙ enter-every _ [] _ (every-none _)
+      (all-pass b t g nm _ _ _ _ known-names (λ m. m .facs) _ (λ k p. p .facs))
+
+  impls-known : every (known (t .impls) implementations) (T .impls) ≡ true
+  unfolding T
+  impls-known = ap (every (known (t .impls) implementations)) (entered-impls noNames _) ∙ enter-every _ [] _ (every-none _)
+      (all-pass b t g nm _ _ _ _ known-names (λ m. m .impls) _ (λ k p. p .impls))
+
+  pub comps-apart : apart (T .comps) ≡ true
+  unfolding T
+  comps-apart = ap apart (entered-comps noNames _) ∙ enter-apart [] _ (unfold apart in refl)
+
+  pub vers-apart : apart (T .vers) ≡ true
+  unfolding T
+  vers-apart = ap apart (entered-vers noNames _) ∙ enter-apart [] _ (unfold apart in refl)
+
+  pub facs-apart : apart (T .facs) ≡ true
+  unfolding T
+  facs-apart = ap apart (entered-facs noNames _) ∙ enter-apart [] _ (unfold apart in refl)
+
+  pub impls-apart : apart (T .impls) ≡ true
+  unfolding T
+  impls-apart = ap apart (entered-impls noNames _) ∙ enter-apart [] _ (unfold apart in refl)
+
+  -- there is a place for each name
+  pub T-fits : fits T ≡ true
+  unfolding fits
+  T-fits =
+      and-in _ _ (≤?-in _ _ (known-fits (t .comps) components (T .comps) comps-apart comps-known))
+      (and-in _ _ (≤?-in _ _ (known-fits (t .vers) versions (T .vers) vers-apart vers-known))
+      (and-in _ _ (≤?-in _ _ (known-fits (t .facs) facilities (T .facs) facs-apart facs-known))
+      (≤?-in _ _ (known-fits (t .impls) implementations (T .impls) impls-apart impls-known))))
+
+  -- ---- each number of the book has its name there
+
+  mention-spec : (sel : Tables → List Name) (w : Name) (c : ℕ) → specified S c ≡ true → among w (sel (mentioned (specOf b t c))) ≡ true → among w (joined (map (λ k. sel (mentioned k)) (asCommands b t))) ≡ true
+  unfolding asCommands
+  mention-spec sel w c e a = among-seg1 w (λ k. sel (mentioned k)) (map (specOf b t) (byName (t .comps) components (specified S))) _ (among-of w (λ k. sel (mentioned k)) (specOf b t) _ c (cs-lists b t g nm .each c ∙ e) a)
+
+  mention-mod : (sel : Tables → List Name) (w : Name) (c : ℕ) → isModule M c ≡ true → among w (sel (mentioned (modOf b t c))) ≡ true → among w (joined (map (λ k. sel (mentioned k)) (asCommands b t))) ≡ true
+  unfolding asCommands
+  mention-mod sel w c e a = among-seg2 w (λ k. sel (mentioned k)) (map (specOf b t) (byName (t .comps) components (specified S))) _
+      (among-seg1 w (λ k. sel (mentioned k)) (map (modOf b t) (byName (t .comps) components (isModule M))) _ (among-of w (λ k. sel (mentioned k)) (modOf b t) _ c (ms-lists b t g nm .each c ∙ e) a))
+
+  into : (ws : List Name) (w : Name) (t′ : Table) → t′ ≡ enter [] ws → among w ws ≡ true → among w t′ ≡ true
+  into ws w t′ e a = ap (among w) e ∙ every-among (λ x. among x (enter [] ws)) ws w (enter-has [] ws) a
+
+  hasC : (c : ℕ) → specified S c ≡ true → among (nameAt (t .comps) c) (T .comps) ≡ true
+  unfolding T
+  hasC c e = into _ _ _ (entered-comps noNames _) (mention-spec (λ m. m .comps) _ c e (here c))
+    where
+      here : (c : ℕ) → among (nameAt (t .comps) c) (mentioned (specOf b t c) .comps) ≡ true
+      here c = unfold mentioned specOf specNames among in or-l _ _ (same-refl (nameAt (t .comps) c))
+
+  hasV : (c v : ℕ) → hasVersion S c v ≡ true → among (nameAt (t .vers) v) (T .vers) ≡ true
+  unfolding T
+  hasV c v e = into _ _ _ (entered-vers noNames _) (mention-spec (λ m. m .vers) _ c (version-specified S c v e) here)
+    where
+      here : among (nameAt (t .vers) v) (mentioned (specOf b t c) .vers) ≡ true
+      here = unfold mentioned specOf specNames in among-map (λ (x : Name × List Name). x .0) (λ v. (nameAt (t .vers) v, facilityNames t (requires S c v))) (byName (t .vers) versions (hasVersion S c)) v (lv-lists b t g nm c .each v ∙ e)
+
+  hasP : (c f : ℕ) → provides S c f ≡ true → specified S c ≡ true → among (nameAt (t .facs) f) (T .facs) ≡ true
+  unfolding T
+  hasP c f e k = into _ _ _ (entered-facs noNames _) (mention-spec (λ m. m .facs) _ c k here)
+    where
+      here : among (nameAt (t .facs) f) (mentioned (specOf b t c) .facs) ≡ true
+      here = unfold mentioned specOf specNames in among-l _ (facilityNames t (provides S c)) _ (unfold facilityNames in among-names-in (nameAt (t .facs)) (byName (t .facs) facilities (provides S c)) f (lp-lists b t g nm c .each f ∙ e))
+
+  hasQ : (c v f : ℕ) → requires S c v f ≡ true → hasVersion S c v ≡ true → among (nameAt (t .facs) f) (T .facs) ≡ true
+  unfolding T
+  hasQ c v f e k = into _ _ _ (entered-facs noNames _) (mention-spec (λ m. m .facs) _ c (version-specified S c v k) here)
+    where
+      inner : among (nameAt (t .facs) f) (facilityNames t (requires S c v)) ≡ true
+      inner = unfold facilityNames in among-names-in (nameAt (t .facs)) (byName (t .facs) facilities (requires S c v)) f (lq-lists b t g nm c v .each f ∙ e)
+      here : among (nameAt (t .facs) f) (mentioned (specOf b t c) .facs) ≡ true
+      here = unfold mentioned specOf specNames in among-r _ (facilityNames t (provides S c)) _
+          (among-of _ (λ (x : Name × List Name). x .1) (λ v. (nameAt (t .vers) v, facilityNames t (requires S c v))) (byName (t .vers) versions (hasVersion S c)) v (lv-lists b t g nm c .each v ∙ k) inner)
+
+  hasI : (c v i : ℕ) → implementation M c v ≡ some i → among (nameAt (t .impls) i) (T .impls) ≡ true
+  unfolding T
+  hasI c v i e = into _ _ _ (entered-impls noNames _) (mention-mod (λ m. m .impls) _ c (implementation-module M c v i e) here)
+    where
+      h : ℕ → Name
+      h v = nameAt (t .impls) (orElse (implementation M c v) 0)
+      at : h v ≡ nameAt (t .impls) i
+      at = unfold orElse in ap (λ (o : Option ℕ). nameAt (t .impls) (orElse o 0)) e
+      here : among (nameAt (t .impls) i) (mentioned (modOf b t c) .impls) ≡ true
+      here = unfold mentioned modOf modNames in subst (λ (w : Name). among w (map (λ (x : Name × Name). x .1) (map (λ v. (nameAt (t .vers) v, h v)) (byName (t .vers) versions (λ v. isSome (implementation M c v))))) ≡ true) at
+          (among-map (λ (x : Name × Name). x .1) (λ v. (nameAt (t .vers) v, h v)) (byName (t .vers) versions (λ v. isSome (implementation M c v))) v (li-lists b t g nm c .each v ∙ isSome-in _ e))
+
+  -- ---- from the book's numbers to the session's
+
+  abbrev pub fc : ℕ → ℕ
+  fc = old (t .comps) (T .comps) components
+
+  abbrev pub gc : ℕ → ℕ
+  gc = new (t .comps) (T .comps)
+
+  abbrev pub fv : ℕ → ℕ
+  fv = old (t .vers) (T .vers) versions
+
+  abbrev pub gv : ℕ → ℕ
+  gv = new (t .vers) (T .vers)
+
+  abbrev pub ff : ℕ → ℕ
+  ff = old (t .facs) (T .facs) facilities
+
+  abbrev pub gf : ℕ → ℕ
+  gf = new (t .facs) (T .facs)
+
+  abbrev pub fi : ℕ → ℕ
+  fi = old (t .impls) (T .impls) implementations
+
+  abbrev pub gi : ℕ → ℕ
+  gi = new (t .impls) (T .impls)
+
+  pub reC : Renaming fc gc components (UsedC S)
+  reC = renaming (t .comps) (T .comps) components (UsedC S) (nm .comps-once) comps-apart (known-fits (t .comps) components (T .comps) comps-apart comps-known)
+      (λ c e. (g .specLimits .component< c e, valid-some _ (nm .component c e), hasC c e))
+
+  usedV : (v : ℕ) → UsedV S v → (v < versions) × (nonEmpty (nameAt (t .vers) v) ≡ true) × (among (nameAt (t .vers) v) (T .vers) ≡ true)
+  usedV v (versionOf c e) = (g .specLimits .version< c v e, valid-some _ (nm .version c v e), hasV c v e)
+
+  pub reV : Renaming fv gv versions (UsedV S)
+  reV = renaming (t .vers) (T .vers) versions (UsedV S) (nm .vers-once) vers-apart (known-fits (t .vers) versions (T .vers) vers-apart vers-known) usedV
+
+  usedF : (f : ℕ) → UsedF S f → (f < facilities) × (nonEmpty (nameAt (t .facs) f) ≡ true) × (among (nameAt (t .facs) f) (T .facs) ≡ true)
+  usedF f (providedBy c e) = (g .specLimits .provided< c f e, valid-some _ (nm .provided c f e), hasP c f e (provides-specified S c f e))
+  usedF f (requiredBy c v e) = (g .specLimits .required< c v f e, valid-some _ (nm .required c v f e), hasQ c v f e (requires-version S c v f e))
+
+  pub reF : Renaming ff gf facilities (UsedF S)
+  reF = renaming (t .facs) (T .facs) facilities (UsedF S) (nm .facs-once) facs-apart (known-fits (t .facs) facilities (T .facs) facs-apart facs-known) usedF
+
+  usedI : (i : ℕ) → UsedI M i → (i < implementations) × (nonEmpty (nameAt (t .impls) i) ≡ true) × (among (nameAt (t .impls) i) (T .impls) ≡ true)
+  usedI i (implementationOf c v e) = (g .moduleLimits .implementation< c v i e .1, impl-some _ (nm .implemented c v i e), hasI c v i e)
+
+  pub reI : Renaming fi gi implementations (UsedI M)
+  reI = renaming (t .impls) (T .impls) implementations (UsedI M) (nm .impls-once) impls-apart (known-fits (t .impls) implementations (T .impls) impls-apart impls-known) usedI
+
+  usedC : (c : ℕ) → UsedC S c → (c < components) × (nonEmpty (nameAt (t .comps) c) ≡ true) × (among (nameAt (t .comps) c) (T .comps) ≡ true)
+  usedC c e = (g .specLimits .component< c e, valid-some _ (nm .component c e), hasC c e)
+
+  pub atC : (w : Name) (P P′ : ℕ → Bool) → ((m : ℕ) → P′ m ≡ P (fc m)) → ((n : ℕ) → P n ≡ true → UsedC S n) → has (place (T .comps) w) P′ ≡ has (place (t .comps) w) P
+  atC = at-through (t .comps) (T .comps) components (UsedC S) (nm .comps-once) comps-apart (known-fits (t .comps) components (T .comps) comps-apart comps-known) usedC
+
+  pub atV : (w : Name) (P P′ : ℕ → Bool) → ((m : ℕ) → P′ m ≡ P (fv m)) → ((n : ℕ) → P n ≡ true → UsedV S n) → has (place (T .vers) w) P′ ≡ has (place (t .vers) w) P
+  atV = at-through (t .vers) (T .vers) versions (UsedV S) (nm .vers-once) vers-apart (known-fits (t .vers) versions (T .vers) vers-apart vers-known) usedV
+
+  pub atF : (w : Name) (P P′ : ℕ → Bool) → ((m : ℕ) → P′ m ≡ P (ff m)) → ((n : ℕ) → P n ≡ true → UsedF S n) → has (place (T .facs) w) P′ ≡ has (place (t .facs) w) P
+  atF = at-through (t .facs) (T .facs) facilities (UsedF S) (nm .facs-once) facs-apart (known-fits (t .facs) facilities (T .facs) facs-apart facs-known) usedF
+
+  pub atI : (w : Name) (P P′ : ℕ → Bool) → ((m : ℕ) → P′ m ≡ P (fi m)) → ((n : ℕ) → P n ≡ true → UsedI M n) → has (place (T .impls) w) P′ ≡ has (place (t .impls) w) P
+  atI = at-through (t .impls) (T .impls) implementations (UsedI M) (nm .impls-once) impls-apart (known-fits (t .impls) implementations (T .impls) impls-apart impls-known) usedI
+
+  abbrev pub renumbering : Renumbering S M
+  renumbering = record { fc = fc; gc = gc; fv = fv; gv = gv; ff = ff; gf = gf; fi = fi; gi = gi; ofC = reC; ofV = reV; ofF = reF; ofI = reI }

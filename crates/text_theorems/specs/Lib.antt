@@ -21,6 +21,7 @@ pub mod Phases
 pub mod Rebuilt
 pub mod RoundTrip
 pub mod Unique
+pub mod Twins
 pub mod Tells
 pub mod Handed
 pub mod Left

@@ -77,7 +77,8 @@ module _ (inC inV inF inI : Set) where
       → ModuleAt c m → ModuleAt c (put v o m)
   with-implementation v o h c m a = put-all (λ k i. inI i ≡ true) m a v o h
 
-  new-spec : (ps : List ℕ) (vs : List (ℕ × List ℕ)) (s : ℕ) → every inF ps ≡ true → every (λ x. inV (x .0) & every inF (x .1)) vs ≡ true
+  new-spec : (ps : List ℕ) (vs : List (ℕ × List ℕ)) (s : ℕ) → every inF ps ≡ true → every (λ x. inV (x .0) & every inF (x .1)) vs
+      ≡ true
       → SpecNumbers inV inF (record { prov = setOf ps; req = λ v. optionMap setOf (beside vs v); std = s })
   unfolding setOf
   new-spec ps vs s hp hv = record {
@@ -88,11 +89,13 @@ module _ (inC inV inF inI : Set) where
   }
 
   -- an accepted command: what the book holds afterwards was there or is put in
-  pub after-numbers : (b : Book) (k : Command) → BookNumbers inC inV inF inI b → puts inC inV inF inI k ≡ true → BookNumbers inC inV inF inI (after b k)
+  pub after-numbers : (b : Book) (k : Command) → BookNumbers inC inV inF inI b → puts inC inV inF inI k ≡ true
+      → BookNumbers inC inV inF inI (after b k)
   unfolding after puts setOf noFacility
   after-numbers b (ADD-SPEC c ps vs s) n h = record {
     specs = put-all SpecAt (b .specs) (n .specs) c _ (λ x e.
-        subst (SpecAt c) (Option·some-injective _ _ e) (and-l _ _ h, new-spec ps vs s (and-l _ _ (and-r _ _ h)) (and-r _ _ (and-r _ _ h))));
+        subst (SpecAt c) (Option·some-injective _ _ e)
+        (and-l _ _ h, new-spec ps vs s (and-l _ _ (and-r _ _ h)) (and-r _ _ (and-r _ _ h))));
     modules = n .modules;
   }
   after-numbers b (ADD-MOD c is) n h = record {
@@ -111,14 +114,23 @@ module _ (inC inV inF inI : Set) where
   }
   after-numbers b (DEL-SYS c) n h = record { specs = n .specs; modules = n .modules }
   after-numbers b (ADD-MODVAR c v rs i) n h = record {
-    specs = change-all SpecAt (b .specs) (n .specs) c _ (λ x a. (a .0, with-version v _ (λ r e.
-        (and-l _ _ h, λ f k. every-elem inF rs (and-l _ _ (and-r _ _ h)) f (ap (λ (z : Set). z f) (Option·some-injective _ _ e) ∙ k))) x (a .1)));
+    specs = change-all SpecAt (b .specs) (n .specs) c _ (λ x a. (
+      a .0,
+      with-version v _ (λ r e. (
+        and-l _ _ h,
+        λ f k. every-elem inF rs (and-l _ _ (and-r _ _ h)) f (ap (λ (z : Set). z f) (Option·some-injective _ _ e)
+            ∙ k),
+      )) x (a .1),
+    ));
     modules = change-all ModuleAt (b .modules) (n .modules) c _ (with-implementation v (some i) (λ j e.
         ap inI (sym (Option·some-injective _ _ e)) ∙ and-r _ _ (and-r _ _ h)) c);
   }
   after-numbers b (ADD-SYSVAR c v ms) n h = record {
-    specs = change-all SpecAt (b .specs) (n .specs) c _ (λ x a. (a .0, with-version v _ (λ r e.
-        (h, λ f k. clash (ap (λ (z : Set). z f) (Option·some-injective _ _ e) ∙ k) refl)) x (a .1)));
+    specs = change-all SpecAt (b .specs) (n .specs) c _ (λ x a. (
+      a .0,
+      with-version v _ (λ r e.
+          (h, λ f k. clash (ap (λ (z : Set). z f) (Option·some-injective _ _ e) ∙ k) refl)) x (a .1),
+    ));
     modules = n .modules;
   }
   after-numbers b (DEL-MODVAR c v) n h = record {
@@ -131,13 +143,17 @@ module _ (inC inV inF inI : Set) where
   }
 
 -- larger sets
-pub more-numbers : (inC inV inF inI inC′ inV′ inF′ inI′ : Set) → ((n : ℕ) → inC n ≡ true → inC′ n ≡ true) → ((n : ℕ) → inV n ≡ true → inV′ n ≡ true)
+pub more-numbers : (inC inV inF inI inC′ inV′ inF′ inI′ : Set) → ((n : ℕ) → inC n ≡ true → inC′ n ≡ true)
+    → ((n : ℕ) → inV n ≡ true → inV′ n ≡ true)
     → ((n : ℕ) → inF n ≡ true → inF′ n ≡ true) → ((n : ℕ) → inI n ≡ true → inI′ n ≡ true) → (b : Book)
     → BookNumbers inC inV inF inI b → BookNumbers inC′ inV′ inF′ inI′ b
 more-numbers inC inV inF inI inC′ inV′ inF′ inI′ c v f i b n = record {
-  specs = λ k x e. (let a = n .specs k x e in (c k (a .0), record {
-    prov = λ g h. f g (a .1 .prov g h);
-    req = λ w q h. (let z = a .1 .req w q h in (v w (z .0), λ g j. f g (z .1 g j)));
-  }));
+  specs = λ k x e. (let a = n .specs k x e in (
+    c k (a .0),
+    record {
+      prov = λ g h. f g (a .1 .prov g h);
+      req = λ w q h. (let z = a .1 .req w q h in (v w (z .0), λ g j. f g (z .1 g j)));
+    },
+  ));
   modules = λ k m e w j h. i j (n .modules k m e w j h);
 }

@@ -26,7 +26,8 @@ step-o : {B : Type 0} (n : ℕ) (t u : Text) → Left n t u → (o : Option (B �
 step-o n t u l none k = tt
 step-o n t u l (some y) k = left-then l k
 
-bind-o : {A B : Type 0} (n : ℕ) (t : Text) (o : Option (A × Text)) (f : A → Reader B) → LeftO n t o → ((a : A) → Eats 0 (f a)) → LeftO n t (andThen o (λ x. f (x .0) (x .1)))
+bind-o : {A B : Type 0} (n : ℕ) (t : Text) (o : Option (A × Text)) (f : A → Reader B) → LeftO n t o → ((a : A) → Eats 0 (f a))
+    → LeftO n t (andThen o (λ x. f (x .0) (x .1)))
 unfolding andThen
 bind-o n t none f l h = tt
 bind-o n t (some x) f l h = step-o n t (x .1) l (f (x .0) (x .1)) (h (x .0) .at (x .1))
@@ -107,7 +108,12 @@ when-eats false x p e = record { at = λ t. left-all t }
 pub listIn-eats : {A : Type 0} (n : ℕ) (k : Token) (p : Reader A) → Eats 1 p → Eats 1 (listIn n k p)
 unfolding listIn
 listIn-eats zero k p e = record { at = λ t. tt }
-listIn-eats (suc n) k p e = record { at = λ t. bind-eats 1 p _ e (λ x. bind-eats 0 (ahead k) _ (ahead-eats k) (λ on. bind-eats 0 (when on [] (listIn n k p)) _ (when-eats on [] (listIn n k p) (less (listIn n k p) (listIn-eats n k p e))) (λ xs. give-eats (x ∷ xs)))) .at t }
+listIn-eats (suc n) k p e = record {
+  at = λ t. bind-eats 1 p _ e
+      (λ x. bind-eats 0 (ahead k) _ (ahead-eats k)
+      (λ on. bind-eats 0 (when on [] (listIn n k p)) _ (when-eats on [] (listIn n k p) (less (listIn n k p) (listIn-eats n k p e)))
+      (λ xs. give-eats (x ∷ xs)))) .at t;
+}
 
 pub list-eats : {A : Type 0} (k : Token) (p : Reader A) → Eats 1 p → Eats 1 (listOf k p)
 unfolding listOf
@@ -121,11 +127,15 @@ names-eats = list-eats comma name name-eats
 
 upTo-eats : (k : Token) → Eats 0 (namesUpTo k)
 unfolding namesUpTo
-upTo-eats k = bind-eats 0 (ahead k) _ (ahead-eats k) (λ b. when-eats (~ b) [] _ (bind-eats 0 names _ (less names names-eats) (λ xs. then-eats 0 (want k) _ (less (want k) (want-eats k)) (give-eats xs))))
+upTo-eats k = bind-eats 0 (ahead k) _ (ahead-eats k)
+    (λ b. when-eats (~ b) [] _ (bind-eats 0 names _ (less names names-eats)
+    (λ xs. then-eats 0 (want k) _ (less (want k) (want-eats k)) (give-eats xs))))
 
 pair-eats : Eats 1 pair
 unfolding pair
-pair-eats = bind-eats 1 name _ name-eats (λ c. then-eats 0 (want point) _ (less (want point) (want-eats point)) (bind-eats 0 name _ (less name name-eats) (λ v. give-eats (c, v))))
+pair-eats = bind-eats 1 name _ name-eats
+    (λ c. then-eats 0 (want point) _ (less (want point) (want-eats point))
+    (bind-eats 0 name _ (less name name-eats) (λ v. give-eats (c, v))))
 
 req-eats : Eats 0 requirements
 unfolding requirements
@@ -136,7 +146,8 @@ after-o : {A : Type 0} (t u : Text) → Left 0 t u → (o : Option (A × Text)) 
 after-o t u l none m = tt
 after-o t u l (some x) m = left-after l m
 
-ahead-o : {A : Type 0} (t : Text) (o : Option (Bool × Text)) (f : Bool → Reader A) → LeftO 0 t o → ((b : Bool) → Eats 1 (f b)) → LeftO 1 t (andThen o (λ x. f (x .0) (x .1)))
+ahead-o : {A : Type 0} (t : Text) (o : Option (Bool × Text)) (f : Bool → Reader A) → LeftO 0 t o → ((b : Bool) → Eats 1 (f b))
+    → LeftO 1 t (andThen o (λ x. f (x .0) (x .1)))
 unfolding andThen
 ahead-o t none f l h = tt
 ahead-o t (some x) f l h = after-o t (x .1) l (f (x .0) (x .1)) (h (x .0) .at (x .1))
@@ -147,7 +158,8 @@ ahead-then k f h = record { at = λ t. ahead-o t (ahead k t) f (ahead-eats k .at
 
 pub specVersion-eats : Eats 1 specVersion
 unfolding specVersion
-specVersion-eats = ahead-then (key "std") _ (λ b. bind-eats 1 name _ name-eats (λ v. bind-eats 0 requirements _ req-eats (λ rs. give-eats (b, (v, rs)))))
+specVersion-eats = ahead-then (key "std") _
+    (λ b. bind-eats 1 name _ name-eats (λ v. bind-eats 0 requirements _ req-eats (λ rs. give-eats (b, (v, rs)))))
 
 theOne-eats : (vs : List Name) → Eats 0 (theOne vs)
 unfolding theOne
@@ -160,20 +172,28 @@ want′ k = less (want k) (want-eats k)
 
 spec-eats : Eats 0 add-spec
 unfolding add-spec
-spec-eats = less _ (bind-eats 1 name _ name-eats (λ c. then-eats 0 _ _ (want′ _) (bind-eats 0 (namesUpTo semicolon) _ (upTo-eats semicolon) (λ ps. bind-eats 0 (listOf semicolon specVersion) _ (less _ (list-eats _ _ specVersion-eats)) (λ vs.
+spec-eats = less _ (bind-eats 1 name _ name-eats
+    (λ c. then-eats 0 _ _ (want′ _) (bind-eats 0 (namesUpTo semicolon) _ (upTo-eats semicolon)
+    (λ ps. bind-eats 0 (listOf semicolon specVersion) _ (less _ (list-eats _ _ specVersion-eats)) (λ vs.
     then-eats 0 _ _ (want′ _) (bind-eats 0 (theOne (standards vs)) _ (theOne-eats (standards vs)) (λ s. give-eats _)))))))
 
 pub modVersion-eats : Eats 1 modVersion
 unfolding modVersion
-modVersion-eats = bind-eats 1 name _ name-eats (λ v. then-eats 0 _ _ (want′ _) (bind-eats 0 imp _ (less _ impl-eats) (λ i. give-eats (v, i))))
+modVersion-eats = bind-eats 1 name _ name-eats
+    (λ v. then-eats 0 _ _ (want′ _) (bind-eats 0 imp _ (less _ impl-eats) (λ i. give-eats (v, i))))
 
 module-eats : Eats 0 add-mod
 unfolding add-mod
-module-eats = less _ (bind-eats 1 name _ name-eats (λ c. then-eats 0 _ _ (want′ _) (bind-eats 0 (listOf semicolon modVersion) _ (less _ (list-eats _ _ modVersion-eats)) (λ is. then-eats 0 _ _ (want′ _) (give-eats _)))))
+module-eats = less _ (bind-eats 1 name _ name-eats
+    (λ c. then-eats 0 _ _ (want′ _) (bind-eats 0 (listOf semicolon modVersion) _ (less _ (list-eats _ _ modVersion-eats))
+    (λ is. then-eats 0 _ _ (want′ _) (give-eats _)))))
 
 pub compo-eats : Eats 1 compo
 unfolding compo
-compo-eats = bind-eats 1 name _ name-eats (λ c. bind-eats 0 (ahead point) _ (ahead-eats point) (λ b. bind-eats 0 (when b none _) _ (when-eats b none _ (bind-eats 0 name _ (less _ name-eats) (λ w. give-eats (some w)))) (λ v. give-eats (c, v))))
+compo-eats = bind-eats 1 name _ name-eats
+    (λ c. bind-eats 0 (ahead point) _ (ahead-eats point)
+    (λ b. bind-eats 0 (when b none _) _ (when-eats b none _ (bind-eats 0 name _ (less _ name-eats) (λ w. give-eats (some w))))
+    (λ v. give-eats (c, v))))
 
 compos-eats : Eats 1 compos
 unfolding compos
@@ -181,19 +201,27 @@ compos-eats = list-eats comma compo compo-eats
 
 pub sysVersion-eats : Eats 1 sysVersion
 unfolding sysVersion
-sysVersion-eats = bind-eats 1 name _ name-eats (λ v. then-eats 0 _ _ (want′ _) (bind-eats 0 compos _ (less compos compos-eats) (λ ms. give-eats (v, ms))))
+sysVersion-eats = bind-eats 1 name _ name-eats
+    (λ v. then-eats 0 _ _ (want′ _) (bind-eats 0 compos _ (less compos compos-eats) (λ ms. give-eats (v, ms))))
 
 sys-eats : Eats 0 add-sys
 unfolding add-sys
-sys-eats = less _ (bind-eats 1 name _ name-eats (λ c. then-eats 0 _ _ (want′ _) (bind-eats 0 names _ (less _ names-eats) (λ us. then-eats 0 _ _ (want′ _) (bind-eats 0 (listOf semicolon sysVersion) _ (less _ (list-eats _ _ sysVersion-eats)) (λ ks. then-eats 0 _ _ (want′ _) (give-eats _)))))))
+sys-eats = less _ (bind-eats 1 name _ name-eats
+    (λ c. then-eats 0 _ _ (want′ _) (bind-eats 0 names _ (less _ names-eats)
+    (λ us. then-eats 0 _ _ (want′ _) (bind-eats 0 (listOf semicolon sysVersion) _ (less _ (list-eats _ _ sysVersion-eats))
+    (λ ks. then-eats 0 _ _ (want′ _) (give-eats _)))))))
 
 modvar-eats : Eats 0 add-modvar
 unfolding add-modvar
-modvar-eats = bind-eats 0 pair _ (less _ pair-eats) (λ p. bind-eats 0 requirements _ req-eats (λ rs. then-eats 0 _ _ (want′ _) (bind-eats 0 imp _ (less _ impl-eats) (λ i. give-eats _))))
+modvar-eats = bind-eats 0 pair _ (less _ pair-eats)
+    (λ p. bind-eats 0 requirements _ req-eats
+    (λ rs. then-eats 0 _ _ (want′ _) (bind-eats 0 imp _ (less _ impl-eats) (λ i. give-eats _))))
 
 sysvar-eats : Eats 0 add-sysvar
 unfolding add-sysvar
-sysvar-eats = bind-eats 0 pair _ (less _ pair-eats) (λ p. then-eats 0 _ _ (want′ _) (bind-eats 0 compos _ (less compos compos-eats) (λ ms. then-eats 0 _ _ (want′ _) (give-eats _))))
+sysvar-eats = bind-eats 0 pair _ (less _ pair-eats)
+    (λ p. then-eats 0 _ _ (want′ _) (bind-eats 0 compos _ (less compos compos-eats)
+    (λ ms. then-eats 0 _ _ (want′ _) (give-eats _))))
 
 choice-eats : Eats 0 choice
 unfolding choice
@@ -215,9 +243,52 @@ EatAll (x ∷ xs) = Eats 0 (x .1) × EatAll xs
 
 grammar-eats : EatAll grammar
 unfolding grammar
-grammar-eats =
-    (spec-eats, (module-eats, (sys-eats, (one-eats DELSPEC, (one-eats DELMOD, (one-eats DELSYS, (modvar-eats, (sysvar-eats, (two-eats DELMODVAR, (two-eats DELSYSVAR, (one-eats SUPPLIES, (two-eats NEEDS,
-    (choice-eats, (one-eats STANDARD, (give-eats UNDEFINED, (give-eats UNUSED, (one-eats WHEREUSED, (two-eats PARTS, (give-eats OUT, tt)))))))))))))))))))
+grammar-eats = (
+  spec-eats,
+  (
+    module-eats,
+    (
+      sys-eats,
+      (
+        one-eats DELSPEC,
+        (
+          one-eats DELMOD,
+          (
+            one-eats DELSYS,
+            (
+              modvar-eats,
+              (
+                sysvar-eats,
+                (
+                  two-eats DELMODVAR,
+                  (
+                    two-eats DELSYSVAR,
+                    (
+                      one-eats SUPPLIES,
+                      (
+                        two-eats NEEDS,
+                        (
+                          choice-eats,
+                          (
+                            one-eats STANDARD,
+                            (
+                              give-eats UNDEFINED,
+                              (give-eats UNUSED, (one-eats WHEREUSED, (two-eats PARTS, (give-eats OUT, tt)))),
+                            ),
+                          ),
+                        ),
+                      ),
+                    ),
+                  ),
+                ),
+              ),
+            ),
+          ),
+        ),
+      ),
+    ),
+  ),
+)
 
 abbrev pub LeftR : ℕ → Text → Read → Type 0
 LeftR n t (said k u) = Left n t u
@@ -232,7 +303,8 @@ read-left n t (some x) l = l
 word-left : (g : List (Text × Reader Said)) → EatAll g → (w t : Text) → LeftR 0 t (byWord g w t)
 unfolding byWord
 word-left [] e w t = tt
-word-left (x ∷ xs) e w t = by-test (LeftR 0 t) (same w (x .0)) _ _ (λ q. read-left 0 t (x .1 t) (e .0 .at t)) (word-left xs (e .1) w t)
+word-left (x ∷ xs) e w t = by-test (LeftR 0 t) (same w (x .0)) _ _ (λ q. read-left 0 t (x .1 t) (e .0 .at t))
+    (word-left xs (e .1) w t)
 
 after-r : (t u : Text) → Left 1 t u → (r : Read) → LeftR 0 u r → LeftR 1 t r
 after-r t u l (said k v) m = left-then l m
@@ -241,7 +313,8 @@ after-r t u l wrong m = tt
 
 of-left : (t : Text) (n : Next) → LeftN t n → LeftR 1 t (commandOf n)
 unfolding commandOf
-of-left t (token (word w) u) l = by-test (LeftR 1 t) (same w (bytes "quit")) _ _ (λ e. tt) (after-r t u l (byWord grammar w u) (word-left grammar grammar-eats w u))
+of-left t (token (word w) u) l = by-test (LeftR 1 t) (same w (bytes "quit")) _ _ (λ e. tt)
+    (after-r t u l (byWord grammar w u) (word-left grammar grammar-eats w u))
 of-left t (token (quoted w) u) l = tt
 of-left t (token (mark c) u) l = tt
 of-left t end l = tt

@@ -2,13 +2,13 @@
 -- The question for 25 on the tables that a text call takes, as a test that computes; and that demand 2 speaks of something.
 use mathlib.Core.Bool.{true}
 use mathlib.Core.List.{[], _∷_}
-use mathlib.Core.Path.{_∙_, _≡_, ap, refl, subst, sym}
-use Prim.Native.Nat.{suc, zero, ℕ}
+use mathlib.Core.Path.{_∙_, _≡_, refl, sym}
+use Prim.Native.Nat.{suc, ℕ}
 use native.Mathlib.Omega.{arith}
 use Rattle.model.specs.Book.{hasVersion, specified}
 use Rattle.model.specs.Lists.{nonEmpty}
 use Rattle.model.specs.Teaching.{K, input}
-use Rattle.sets.specs.TestLaws.{all-in, all-out, and-in, and-l, and-r, clash, fails, imp-in, imp-out, not-in, not-out}
+use Rattle.sets.specs.TestLaws.{all-in, all-out, and-in, and-l, and-r, fails, imp-in, imp-out, not-in}
 use Rattle.text.specs.Bytes.{among, bytes}
 use Rattle.text.specs.Example.{allOfText}
 use Rattle.text.specs.Handed.{Named, Once, PassesNamed, componentNamed, namesHold, noneTwice, versionNamed}
@@ -16,30 +16,23 @@ use Rattle.text.specs.Language.{Name}
 use Rattle.text.specs.Session.{State}
 use Rattle.text.specs.Tables.{Table, nameAt}
 use Rattle.text_theorems.specs.BookLaws.{implementation-module, provides-specified}
-use Rattle.text_theorems.specs.Places.{name-among, place-name, place-there}
+use Rattle.text_theorems.specs.Places.{none-twice, place-name, place-there}
 use Rattle.theorems.specs.Good.{Good, passes→good, requires-version, version-specified}
 use Rattle.theorems.specs.MapLaws.{if-there-in, if-there-out, isSome-in, isSome-out}
 use Rattle.theorems.specs.Sequence.{always-passes}
 use contract.Running.{tables}
-
-pub none-twice : (t : Table) → noneTwice t ≡ true → Once t
-unfolding noneTwice nameAt
-none-twice [] p i j e q = clash e (unfold nonEmpty in refl)
-none-twice (x ∷ xs) p zero zero e q = refl
-none-twice (x ∷ xs) p zero (suc j) e q =
-    clash (ap (λ (z : Name). among z xs) q ∙ name-among xs j (subst (λ (z : Name). nonEmpty z ≡ true) q e)) (not-out _ (imp-out _ _ (and-l _ _ p) e))
-none-twice (x ∷ xs) p (suc i) zero e q =
-    clash (ap (λ (z : Name). among z xs) (sym q) ∙ name-among xs i e) (not-out _ (imp-out _ _ (and-l _ _ p) (subst (λ (z : Name). nonEmpty z ≡ true) q e)))
-none-twice (x ∷ xs) p (suc i) (suc j) e q = ap suc (none-twice xs (and-r _ _ p) i j e q)
 
 pub names-hold : (s : State) → Good (s .book) → namesHold s ≡ true → Named s
 unfolding namesHold componentNamed versionNamed
 names-hold s g h = record {
   component = λ c e. and-l _ _ (at c e);
   version = λ c v e. and-l _ _ (ver c v e);
-  provided = λ c f e. imp-out _ _ (all-out _ _ (and-l _ _ (and-r _ _ (at c (provides-specified _ c f e)))) f (g .specLimits .provided< c f e)) e;
-  required = λ c v f e. imp-out _ _ (all-out _ _ (and-l _ _ (and-r _ _ (ver c v (requires-version _ c v f e)))) f (g .specLimits .required< c v f e)) e;
-  implemented = λ c v i e. if-there-out _ _ (and-r _ _ (and-r _ _ (ver c v (sym (g .b2 .mod-covers c v (implementation-module _ c v i e)) ∙ isSome-in _ e)))) i e;
+  provided = λ c f e. imp-out _ _ (all-out _ _ (and-l _ _ (and-r _ _ (at c (provides-specified _ c f e)))) f
+      (g .specLimits .provided< c f e)) e;
+  required = λ c v f e. imp-out _ _ (all-out _ _ (and-l _ _ (and-r _ _ (ver c v (requires-version _ c v f e)))) f
+      (g .specLimits .required< c v f e)) e;
+  implemented = λ c v i e. if-there-out _ _
+      (and-r _ _ (and-r _ _ (ver c v (sym (g .b2 .mod-covers c v (implementation-module _ c v i e)) ∙ isSome-in _ e)))) i e;
   comps-once = none-twice _ (and-l _ _ (and-r _ _ h));
   vers-once = none-twice _ (and-l _ _ (and-r _ _ (and-r _ _ h)));
   facs-once = none-twice _ (and-l _ _ (and-r _ _ (and-r _ _ (and-r _ _ h))));
@@ -48,8 +41,10 @@ names-hold s g h = record {
   where
     at : (c : ℕ) → specified (s .book .specs) c ≡ true → componentNamed s c ≡ true
     at c e = imp-out _ _ (all-out _ _ (and-l _ _ h) c (g .specLimits .component< c e)) e
+
     ver : (c v : ℕ) → hasVersion (s .book .specs) c v ≡ true → versionNamed s c v ≡ true
-    ver c v e = imp-out _ _ (all-out _ _ (and-r _ _ (and-r _ _ (at c (version-specified _ c v e)))) v (g .specLimits .version< c v e)) e
+    ver c v e = imp-out _ _ (all-out _ _ (and-r _ _ (and-r _ _ (at c (version-specified _ c v e)))) v
+        (g .specLimits .version< c v e)) e
 
 -- ---- and back
 
@@ -75,10 +70,10 @@ pub hold-names : (s : State) → Named s → namesHold s ≡ true
 unfolding namesHold componentNamed versionNamed
 hold-names s n =
     and-in _ _ (all-in _ _ (λ c l. imp-in _ _ (λ e. and-in _ _ (n .component c e)
-      (and-in _ _ (all-in _ _ (λ f k. imp-in _ _ (n .provided c f)))
-      (all-in _ _ (λ v k. imp-in _ _ (λ h. and-in _ _ (n .version c v h)
-        (and-in _ _ (all-in _ _ (λ f j. imp-in _ _ (n .required c v f)))
-        (if-there-in _ _ (λ i j. n .implemented c v i j))))))))))
+    (and-in _ _ (all-in _ _ (λ f k. imp-in _ _ (n .provided c f)))
+    (all-in _ _ (λ v k. imp-in _ _ (λ h. and-in _ _ (n .version c v h)
+    (and-in _ _ (all-in _ _ (λ f j. imp-in _ _ (n .required c v f)))
+    (if-there-in _ _ (λ i j. n .implemented c v i j))))))))))
     (and-in _ _ (once-twice _ (n .comps-once)) (and-in _ _ (once-twice _ (n .vers-once))
     (and-in _ _ (once-twice _ (n .facs-once)) (once-twice _ (n .impls-once)))))
 

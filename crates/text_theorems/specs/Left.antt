@@ -1,4 +1,5 @@
--- "Each command is read from the rest of the text after the one before": what is left behind a token is an end of the text, and shorter.
+-- "Each command is read from the rest of the text after the one before": what is left behind a token is an end of the text, and
+-- shorter.
 use mathlib.Core.Bool.{Bool, false, true}
 use mathlib.Core.List.{[], _++_, _∷_, append-assoc}
 use mathlib.Core.Option.{Option, none, some}
@@ -23,7 +24,12 @@ pub left-all : (t : Text) → Left 0 t t
 left-all t = record { front = []; is = refl; long = zero-le }
 
 left-more : {n : ℕ} {c : ℕ} {t u : Text} → Left n t u → Left (suc n) (c ∷ t) u
-left-more {c = c} l = record { front = c ∷ l .front; is = ap (λ (z : Text). c ∷ z) (l .is); long = (let h = l .long in omega arith) }
+left-more {c = c} l = record {
+  front = c ∷
+      l .front;
+  is = ap (λ (z : Text). c ∷ z) (l .is);
+  long = (let h = l .long in omega arith);
+}
 
 pub left-less : {n : ℕ} {t u : Text} → Left (suc n) t u → Left 0 t u
 left-less l = record { front = l .front; is = l .is; long = zero-le }
@@ -66,17 +72,20 @@ unfolding skip
 skip-left true [] = tt
 skip-left false [] = left-all []
 skip-left true (c ∷ cs) = more-t c cs (skip (~ (c == 125)) cs) (skip-left (~ (c == 125)) cs)
-skip-left false (c ∷ cs) = by-test (LeftT (c ∷ cs)) (white c or c == 123) _ _ (λ e. more-t c cs (skip (c == 123) cs) (skip-left (c == 123) cs)) (left-all (c ∷ cs))
+skip-left false (c ∷ cs) = by-test (LeftT (c ∷ cs)) (white c or c == 123) _ _
+    (λ e. more-t c cs (skip (c == 123) cs) (skip-left (c == 123) cs)) (left-all (c ∷ cs))
 
 past-left : (f : ℕ → Bool) (t : Text) → Left 0 t (past f t)
 unfolding past
 past-left f [] = left-all []
-past-left f (c ∷ cs) = by-test (λ (u : Text). Left 0 (c ∷ cs) u) (f c) _ _ (λ e. left-less (left-more {c = c} (past-left f cs))) (left-all (c ∷ cs))
+past-left f (c ∷ cs) = by-test (λ (u : Text). Left 0 (c ∷ cs) u) (f c) _ _ (λ e. left-less (left-more {c = c} (past-left f cs)))
+    (left-all (c ∷ cs))
 
 closing-left : (c : ℕ) (t w r : Text) → Left 0 t r → LeftN (c ∷ t) (closing w r)
 unfolding closing
 closing-left c t w [] l = tt
-closing-left c t w (d ∷ ds) l = by-test (LeftN (c ∷ t)) (d == 34 & short w) _ _ (λ e. left-then (left-more {c = c} l) (left-less (left-more {c = d} (left-all ds)))) tt
+closing-left c t w (d ∷ ds) l = by-test (LeftN (c ∷ t)) (d == 34 & short w) _ _
+    (λ e. left-then (left-more {c = c} l) (left-less (left-more {c = d} (left-all ds)))) tt
 
 token-left : (t : Text) → LeftN t (tokenAt t)
 unfolding tokenAt
@@ -84,7 +93,8 @@ token-left [] = tt
 token-left (c ∷ cs) =
     by-test (LeftN (c ∷ cs)) (alnum c) _ _ (λ e. left-more (past-left nameByte cs))
     (by-test (LeftN (c ∷ cs)) (isMark c) _ _ (λ e. left-more (left-all cs))
-    (by-test (LeftN (c ∷ cs)) (c == 34) _ _ (λ e. closing-left c cs (run implByte cs) (past implByte cs) (past-left implByte cs)) tt))
+    (by-test (LeftN (c ∷ cs)) (c == 34) _ _
+    (λ e. closing-left c cs (run implByte cs) (past implByte cs) (past-left implByte cs)) tt))
 
 skipped-left : (t : Text) (o : Option Text) → LeftT t o → LeftN t (skipped o)
 unfolding skipped

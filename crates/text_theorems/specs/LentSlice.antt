@@ -71,20 +71,26 @@ systems-few (suc n) Y ss out = found-few n (λ s. systemsFrom n Y ss (s ∷ out)
 commands-few : (s : State) → NamedGood s → length (asCommands (s .book) (s .tables)) ≤ 96
 unfolding asCommands systemsInOrder
 commands-few s p =
-    let cs = byName (s .tables .comps) components (specified (s .book .specs)) in let ms = byName (s .tables .comps) components (isModule (s .book .modules)) in
+    let cs = byName (s .tables .comps) components (specified (s .book .specs)) in
+    let ms = byName (s .tables .comps) components (isModule (s .book .modules)) in
     let ss = systemsFrom components (s .book .systems) (byName (s .tables .comps) components (isSystem (s .book .systems))) [] in
-    let a = le-trans (lists-length components cs _ (cs-lists (s .book) (s .tables) (p .good) (p .named)) (λ n e. p .good .specLimits .component< n e)) (count-le components _) in
-    let b = le-trans (lists-length components ms _ (ms-lists (s .book) (s .tables) (p .good) (p .named)) (λ n e. p .good .moduleLimits .component< n e)) (count-le components _) in
+    let a = le-trans (lists-length components cs _ (cs-lists (s .book) (s .tables) (p .good) (p .named))
+    (λ n e. p .good .specLimits .component< n e)) (count-le components _) in
+    let b = le-trans (lists-length components ms _ (ms-lists (s .book) (s .tables) (p .good) (p .named))
+    (λ n e. p .good .moduleLimits .component< n e)) (count-le components _) in
     let c = systems-few components (s .book .systems) (byName (s .tables .comps) components (isSystem (s .book .systems))) [] in
-    let la = length-map (specOf (s .book) (s .tables)) cs in let lb = length-map (modOf (s .book) (s .tables)) ms in let lc = length-map (sysOf (s .book) (s .tables)) ss in
-    let d = length-append (map (specOf (s .book) (s .tables)) cs) (map (modOf (s .book) (s .tables)) ms ++ map (sysOf (s .book) (s .tables)) ss) in
+    let la = length-map (specOf (s .book) (s .tables)) cs in let lb = length-map (modOf (s .book) (s .tables)) ms in
+    let lc = length-map (sysOf (s .book) (s .tables)) ss in
+    let d = length-append (map (specOf (s .book) (s .tables)) cs) (map (modOf (s .book) (s .tables)) ms
+    ++ map (sysOf (s .book) (s .tables)) ss) in
     let e = length-append (map (modOf (s .book) (s .tables)) ms) (map (sysOf (s .book) (s .tables)) ss) in
     omega arith
 
 pub rows-short : (s : State) → PassesNamed s → length (session (textOf s) .0) ≤ 480
 rows-short s p =
     let n = commands-few s (passes→named p) in
-    subst (λ (w : Text). length w ≤ 480) (sym (reads-back s p .0)) (le-trans (accepted-short (length (asCommands (s .book) (s .tables))) 1 (omega arith)) (omega arith))
+    subst (λ (w : Text). length w ≤ 480) (sym (reads-back s p .0))
+    (le-trans (accepted-short (length (asCommands (s .book) (s .tables))) 1 (omega arith)) (omega arith))
 
 -- A book written as text and read into an empty session with a slice of 480 bytes or more is the same book by names.
 pub reads-back-in : (s : State) → PassesNamed s → (slice : List ℕ) → 480 ≤ length slice → Same (stateAfter slice (textOf s)) s

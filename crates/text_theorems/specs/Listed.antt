@@ -62,7 +62,8 @@ insert-elem t m n [] = refl
 insert-elem t m n (x ∷ xs) =
     elim (bool? (before (nameAt t m) (nameAt t x))) [
       | inl q ↦ ap (elem n) (if-true _ _ _ q)
-      | inr q ↦ ap (elem n) (if-false _ _ _ q) ∙ ap (λ (z : Bool). n == x or z) (insert-elem t m n xs) ∙ or-third (n == x) (n == m) (elem n xs)
+      | inr q ↦ ap (elem n) (if-false _ _ _ q) ∙ ap (λ (z : Bool). n == x or z) (insert-elem t m n xs)
+          ∙ or-third (n == x) (n == m) (elem n xs)
     ]
 
 pub sorted-elem : (t : Table) (n : ℕ) (l : List ℕ) → elem n (sorted t l) ≡ elem n l
@@ -77,14 +78,17 @@ insert-once t m (x ∷ xs) e o =
     elim (bool? (before (nameAt t m) (nameAt t x))) [
       | inl q ↦ ap once (if-true _ _ _ q) ∙ and-in _ _ (not-in _ e) o
       | inr q ↦ ap once (if-false _ _ _ q) ∙ and-in _ _
-          (not-in _ (insert-elem t m x xs ∙ or-false _ _ (==-not x m (λ z. clash {A = ⊥} (or-l (m == x) (elem m xs) (==-in _ _ (sym z))) e)) ∙ not-out _ (and-l _ _ o)))
+          (not-in _ (insert-elem t m x xs
+          ∙ or-false _ _ (==-not x m (λ z. clash {A = ⊥} (or-l (m == x) (elem m xs) (==-in _ _ (sym z))) e))
+          ∙ not-out _ (and-l _ _ o)))
           (insert-once t m xs (fails _ (λ z. clash {A = ⊥} (or-r (m == x) (elem m xs) z) e)) (and-r _ _ o))
     ]
 
 sorted-once : (t : Table) (l : List ℕ) → once l ≡ true → once (sorted t l) ≡ true
 unfolding sorted once
 sorted-once t [] o = refl
-sorted-once t (x ∷ xs) o = insert-once t x (sorted t xs) (sorted-elem t x xs ∙ not-out _ (and-l _ _ o)) (sorted-once t xs (and-r _ _ o))
+sorted-once t (x ∷ xs) o = insert-once t x (sorted t xs) (sorted-elem t x xs ∙ not-out _ (and-l _ _ o))
+    (sorted-once t xs (and-r _ _ o))
 
 -- l holds each number that passes the test, once
 pub record Lists (l : List ℕ) (test : ℕ → Bool) : Type 0 where
@@ -108,13 +112,16 @@ unfolding every elem
 below-all L [] h = refl
 below-all L (x ∷ xs) h = and-in _ _ (<?-in _ _ (h x (or-l _ _ (==-same x)))) (below-all L xs (λ n e. h n (or-r _ _ e)))
 
-pub lists-length : (L : ℕ) (l : List ℕ) (test : ℕ → Bool) → Lists l test → ((n : ℕ) → test n ≡ true → n < L) → length l ≤ count L test
+pub lists-length : (L : ℕ) (l : List ℕ) (test : ℕ → Bool) → Lists l test → ((n : ℕ) → test n ≡ true → n < L)
+    → length l ≤ count L test
 lists-length L l test k h =
-    le-trans (once-count L l (k .one) (below-all L l (λ n e. h n (sym (k .each n) ∙ e)))) (count-mono L _ _ (λ i q e. sym (k .each i) ∙ e))
+    le-trans (once-count L l (k .one) (below-all L l (λ n e. h n (sym (k .each n) ∙ e))))
+    (count-mono L _ _ (λ i q e. sym (k .each i) ∙ e))
 
 -- ---- a test of each element
 
-pub every-of : {A : Type 0} (test : A → Bool) (h : ℕ → A) (l : List ℕ) → ((n : ℕ) → elem n l ≡ true → test (h n) ≡ true) → every test (map h l) ≡ true
+pub every-of : {A : Type 0} (test : A → Bool) (h : ℕ → A) (l : List ℕ) → ((n : ℕ) → elem n l ≡ true → test (h n) ≡ true)
+    → every test (map h l) ≡ true
 unfolding every elem
 every-of test h [] k = refl
 every-of test h (x ∷ xs) k = and-in _ _ (k x (or-l _ _ (==-same x))) (every-of test h xs (λ n e. k n (or-r _ _ e)))
@@ -134,7 +141,11 @@ seconds-map g h (x ∷ xs) = ap (λ (r : List _). h x ∷ r) (seconds-map g h xs
 pub elem-map-in : (g : ℕ → ℕ) (l : List ℕ) (n : ℕ) → elem n l ≡ true → elem (g n) (map g l) ≡ true
 unfolding elem
 elem-map-in g [] n e = clash e refl
-elem-map-in g (x ∷ xs) n e = elim (or-out _ _ e) [ inl q ↦ or-l _ _ (==-in _ _ (ap g (==-out _ _ q))) | inr q ↦ or-r _ _ (elem-map-in g xs n q) ]
+elem-map-in g (x ∷ xs) n e = elim (or-out _ _ e) [
+  | inl q ↦ or-l _ _ (==-in _ _ (ap g (==-out _ _ q)))
+  | inr q ↦ or-r _ _
+      (elem-map-in g xs n q)
+]
 
 pub elem-map-out : (g : ℕ → ℕ) (l : List ℕ) (m : ℕ) → elem m (map g l) ≡ true → (n : ℕ) × (elem n l ≡ true) × (g n ≡ m)
 unfolding elem
@@ -145,24 +156,30 @@ elem-map-out g (x ∷ xs) m e =
       | inr q ↦ (let r = elem-map-out g xs m q in (r .0, or-r _ _ (r .1), r .2))
     ]
 
-once-map : (g : ℕ → ℕ) (l : List ℕ) → once l ≡ true → ((i j : ℕ) → elem i l ≡ true → elem j l ≡ true → g i ≡ g j → i ≡ j) → once (map g l) ≡ true
+once-map : (g : ℕ → ℕ) (l : List ℕ) → once l ≡ true → ((i j : ℕ) → elem i l ≡ true → elem j l ≡ true → g i ≡ g j → i ≡ j)
+    → once (map g l) ≡ true
 unfolding once elem
 once-map g [] o h = refl
 once-map g (x ∷ xs) o h =
     and-in _ _ (not-in _ (fails _ (λ e. let r = elem-map-out g xs (g x) e in
-      clash {A = ⊥} (subst (λ (z : ℕ). elem z xs ≡ true) (h (r .0) x (or-r _ _ (r .1)) (or-l _ _ (==-same x)) (r .2)) (r .1)) (not-out _ (and-l _ _ o)))))
+    clash {A = ⊥} (subst (λ (z : ℕ). elem z xs ≡ true) (h (r .0) x (or-r _ _ (r .1)) (or-l _ _ (==-same x)) (r .2)) (r .1))
+    (not-out _ (and-l _ _ o)))))
     (once-map g xs (and-r _ _ o) (λ i j p q e. h i j (or-r _ _ p) (or-r _ _ q) e))
 
-beside-here : {A : Type 0} (g : ℕ → ℕ) (h : ℕ → A) (l : List ℕ) (n : ℕ) → elem n l ≡ true → ((i : ℕ) → elem i l ≡ true → g i ≡ g n → i ≡ n) → beside (map (λ v. (g v, h v)) l) (g n) ≡ some (h n)
+beside-here : {A : Type 0} (g : ℕ → ℕ) (h : ℕ → A) (l : List ℕ) (n : ℕ) → elem n l ≡ true
+    → ((i : ℕ) → elem i l ≡ true → g i ≡ g n → i ≡ n) → beside (map (λ v. (g v, h v)) l) (g n) ≡ some (h n)
 unfolding beside elem
 beside-here g h [] n e k = clash e refl
 beside-here g h (x ∷ xs) n e k =
     elim (same? (g n) (g x)) [
       | inl q ↦ if-true _ _ _ (==-in _ _ q) ∙ ap (λ (z : ℕ). some (h z)) (k x (or-l _ _ (==-same x)) (sym q))
-      | inr q ↦ if-false _ _ _ (==-not _ _ q) ∙ beside-here g h xs n (elim (or-out _ _ e) [ inl z ↦ absurd (q (ap g (==-out _ _ z))) | inr z ↦ z ]) (λ i p. k i (or-r _ _ p))
+      | inr q ↦ if-false _ _ _ (==-not _ _ q)
+          ∙ beside-here g h xs n (elim (or-out _ _ e) [ inl z ↦ absurd (q (ap g (==-out _ _ z))) | inr z ↦ z ])
+          (λ i p. k i (or-r _ _ p))
     ]
 
-module _ (f g : ℕ → ℕ) (L : ℕ) (Use : ℕ → Type 0) (R : Renaming f g L Use) (l : List ℕ) (test : ℕ → Bool) (k : Lists l test) (used : (n : ℕ) → test n ≡ true → Use n) where
+module _ (f g : ℕ → ℕ) (L : ℕ) (Use : ℕ → Type 0) (R : Renaming f g L Use) (l : List ℕ) (test : ℕ → Bool) (k : Lists l test)
+    (used : (n : ℕ) → test n ≡ true → Use n) where
   use-of : (n : ℕ) → elem n l ≡ true → Use n
   use-of n e = used n (sym (k .each n) ∙ e)
 
@@ -171,7 +188,8 @@ module _ (f g : ℕ → ℕ) (L : ℕ) (Use : ℕ → Type 0) (R : Renaming f g 
 
   pub new-each : (m : ℕ) → elem m (map g l) ≡ test (f m)
   new-each m = iff→≡ _ _
-      (λ e. let r = elem-map-out g l m e in ap test (ap f (sym (r .2)) ∙ R .back (r .0) (use-of (r .0) (r .1))) ∙ sym (k .each (r .0)) ∙ r .1)
+      (λ e. let r = elem-map-out g l m e in ap test (ap f (sym (r .2)) ∙ R .back (r .0) (use-of (r .0) (r .1)))
+      ∙ sym (k .each (r .0)) ∙ r .1)
       (λ e. subst (λ (z : ℕ). elem z (map g l) ≡ true) (R .forth m (used (f m) e)) (elem-map-in g l (f m) (k .each (f m) ∙ e)))
 
   pub new-once : once (map g l) ≡ true
@@ -183,7 +201,8 @@ module _ (f g : ℕ → ℕ) (L : ℕ) (Use : ℕ → Type 0) (R : Renaming f g 
   pub new-beside : {A : Type 0} (h : ℕ → A) (m : ℕ) → test (f m) ≡ true → beside (map (λ v. (g v, h v)) l) m ≡ some (h (f m))
   new-beside h m e =
       let z = R .forth m (used (f m) e) in
-      ap (beside (map (λ v. (g v, h v)) l)) (sym z) ∙ beside-here g h l (f m) (k .each (f m) ∙ e) (λ i p q. injective i (f m) p (k .each (f m) ∙ e) q)
+      ap (beside (map (λ v. (g v, h v)) l)) (sym z)
+      ∙ beside-here g h l (f m) (k .each (f m) ∙ e) (λ i p q. injective i (f m) p (k .each (f m) ∙ e) q)
 
   pub new-beside-no : {A : Type 0} (h : ℕ → A) (m : ℕ) → test (f m) ≡ false → beside (map (λ v. (g v, h v)) l) m ≡ none
   new-beside-no h m e = isSome-no _ (beside-elem (map (λ v. (g v, h v)) l) m ∙ ap (elem m) (firsts-map g h l) ∙ new-each m ∙ e)

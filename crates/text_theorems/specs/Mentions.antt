@@ -36,39 +36,50 @@ unfolding enter
 enter-append t [] ys = refl
 enter-append t (x ∷ xs) ys = enter-append _ xs ys
 
-pub entered-comps : (t : Tables) (ks : List Said) → allEntered t ks .comps ≡ enter (t .comps) (joined (map (λ k. mentioned k .comps) ks))
+pub entered-comps : (t : Tables) (ks : List Said) → allEntered t ks .comps
+    ≡ enter (t .comps) (joined (map (λ k. mentioned k .comps) ks))
 unfolding allEntered joined entered enter
 entered-comps t [] = refl
 entered-comps t (k ∷ ks) = entered-comps (entered t (mentioned k)) ks ∙ sym (enter-append (t .comps) (mentioned k .comps) _)
 
-pub entered-vers : (t : Tables) (ks : List Said) → allEntered t ks .vers ≡ enter (t .vers) (joined (map (λ k. mentioned k .vers) ks))
+pub entered-vers : (t : Tables) (ks : List Said) → allEntered t ks .vers
+    ≡ enter (t .vers) (joined (map (λ k. mentioned k .vers) ks))
 unfolding allEntered joined entered enter
 entered-vers t [] = refl
 entered-vers t (k ∷ ks) = entered-vers (entered t (mentioned k)) ks ∙ sym (enter-append (t .vers) (mentioned k .vers) _)
 
-pub entered-facs : (t : Tables) (ks : List Said) → allEntered t ks .facs ≡ enter (t .facs) (joined (map (λ k. mentioned k .facs) ks))
+pub entered-facs : (t : Tables) (ks : List Said) → allEntered t ks .facs
+    ≡ enter (t .facs) (joined (map (λ k. mentioned k .facs) ks))
 unfolding allEntered joined entered enter
 entered-facs t [] = refl
 entered-facs t (k ∷ ks) = entered-facs (entered t (mentioned k)) ks ∙ sym (enter-append (t .facs) (mentioned k .facs) _)
 
-pub entered-impls : (t : Tables) (ks : List Said) → allEntered t ks .impls ≡ enter (t .impls) (joined (map (λ k. mentioned k .impls) ks))
+pub entered-impls : (t : Tables) (ks : List Said) → allEntered t ks .impls
+    ≡ enter (t .impls) (joined (map (λ k. mentioned k .impls) ks))
 unfolding allEntered joined entered enter
 entered-impls t [] = refl
 entered-impls t (k ∷ ks) = entered-impls (entered t (mentioned k)) ks ∙ sym (enter-append (t .impls) (mentioned k .impls) _)
 
 -- ---- lists of lists
 
-pub among-seg1 : (w : Name) (sel : Said → List Name) (xs ys : List Said) → among w (joined (map sel xs)) ≡ true → among w (joined (map sel (xs ++ ys))) ≡ true
+pub among-seg1 : (w : Name) (sel : Said → List Name) (xs ys : List Said) → among w (joined (map sel xs)) ≡ true
+    → among w (joined (map sel (xs ++ ys))) ≡ true
 unfolding joined among
 among-seg1 w sel [] ys a = clash a refl
-among-seg1 w sel (x ∷ xs) ys a = elim (among-out w (sel x) _ a) [ inl q ↦ among-l w (sel x) _ q | inr q ↦ among-r w (sel x) _ (among-seg1 w sel xs ys q) ]
+among-seg1 w sel (x ∷ xs) ys a = elim (among-out w (sel x) _ a) [
+  | inl q ↦ among-l w (sel x) _ q
+  | inr q ↦ among-r w (sel x) _
+      (among-seg1 w sel xs ys q)
+]
 
-pub among-seg2 : (w : Name) (sel : Said → List Name) (xs ys : List Said) → among w (joined (map sel ys)) ≡ true → among w (joined (map sel (xs ++ ys))) ≡ true
+pub among-seg2 : (w : Name) (sel : Said → List Name) (xs ys : List Said) → among w (joined (map sel ys)) ≡ true
+    → among w (joined (map sel (xs ++ ys))) ≡ true
 unfolding joined
 among-seg2 w sel [] ys a = a
 among-seg2 w sel (x ∷ xs) ys a = among-r w (sel x) _ (among-seg2 w sel xs ys a)
 
-pub among-of : {A : Type 0} (w : Name) (sel : A → List Name) (h : ℕ → A) (l : List ℕ) (n : ℕ) → elem n l ≡ true → among w (sel (h n)) ≡ true → among w (joined (map sel (map h l))) ≡ true
+pub among-of : {A : Type 0} (w : Name) (sel : A → List Name) (h : ℕ → A) (l : List ℕ) (n : ℕ) → elem n l ≡ true
+    → among w (sel (h n)) ≡ true → among w (joined (map sel (map h l))) ≡ true
 unfolding joined elem
 among-of w sel h [] n e a = clash e refl
 among-of w sel h (x ∷ xs) n e a =
@@ -77,19 +88,24 @@ among-of w sel h (x ∷ xs) n e a =
       | inr q ↦ among-r w (sel (h x)) _ (among-of w sel h xs n q a)
     ]
 
-pub among-map : {A : Type 0} (f : A → Name) (h : ℕ → A) (l : List ℕ) (n : ℕ) → elem n l ≡ true → among (f (h n)) (map f (map h l)) ≡ true
+pub among-map : {A : Type 0} (f : A → Name) (h : ℕ → A) (l : List ℕ) (n : ℕ) → elem n l ≡ true
+    → among (f (h n)) (map f (map h l)) ≡ true
 among-map f h l n e = ap (among (f (h n))) (map-map f h l) ∙ among-names-in (λ n. f (h n)) l n e
 
-every-firsts : {A : Type 0} (test : Name → Bool) (f : ℕ → Name) (h : ℕ → A) (l : List ℕ) → ((n : ℕ) → elem n l ≡ true → test (f n) ≡ true) → every test (map (λ (x : Name × A). x .0) (map (λ v. (f v, h v)) l)) ≡ true
+every-firsts : {A : Type 0} (test : Name → Bool) (f : ℕ → Name) (h : ℕ → A) (l : List ℕ)
+    → ((n : ℕ) → elem n l ≡ true → test (f n) ≡ true) → every test (map (λ (x : Name × A). x .0) (map (λ v. (f v, h v)) l)) ≡ true
 every-firsts test f h l k = ap (every test) (map-map _ _ l) ∙ every-of test f l k
 
-every-seconds : (test : Name → Bool) (f h : ℕ → Name) (l : List ℕ) → ((n : ℕ) → elem n l ≡ true → test (h n) ≡ true) → every test (map (λ (x : Name × Name). x .1) (map (λ v. (f v, h v)) l)) ≡ true
+every-seconds : (test : Name → Bool) (f h : ℕ → Name) (l : List ℕ) → ((n : ℕ) → elem n l ≡ true → test (h n) ≡ true)
+    → every test (map (λ (x : Name × Name). x .1) (map (λ v. (f v, h v)) l)) ≡ true
 every-seconds test f h l k = ap (every test) (map-map _ _ l) ∙ every-of test h l k
 
-every-lists : {A : Type 0} (test : Name → Bool) (sel : A → List Name) (h : ℕ → A) (l : List ℕ) → ((n : ℕ) → elem n l ≡ true → every test (sel (h n)) ≡ true) → every test (joined (map sel (map h l))) ≡ true
+every-lists : {A : Type 0} (test : Name → Bool) (sel : A → List Name) (h : ℕ → A) (l : List ℕ)
+    → ((n : ℕ) → elem n l ≡ true → every test (sel (h n)) ≡ true) → every test (joined (map sel (map h l))) ≡ true
 every-lists test sel h l k = every-joined test sel (map h l) (every-of _ h l k)
 
-given-some : (h : ℕ → Name) (f : ℕ → Name) (l : List ℕ) → given (map (λ (m : Name × Option Name). m .1) (map (λ c. (f c, some (h c))) l)) ≡ map h l
+given-some : (h : ℕ → Name) (f : ℕ → Name) (l : List ℕ)
+    → given (map (λ (m : Name × Option Name). m .1) (map (λ c. (f c, some (h c))) l)) ≡ map h l
 unfolding given
 given-some h f [] = refl
 given-some h f (x ∷ xs) = ap (λ (r : List Name). h x ∷ r) (given-some h f xs)
@@ -135,7 +151,8 @@ module _ (b : Book) (t : Tables) (g : Good b) (nm : Named (record { book = b; ta
   pub lq-lists : (c v : ℕ) → Lists (byName (t .facs) facilities (requires S c v)) (requires S c v)
   lq-lists c v = byName-lists _ _ _ (λ n e. g .specLimits .required< c v n e)
 
-  pub li-lists : (c : ℕ) → Lists (byName (t .vers) versions (λ v. isSome (implementation M c v))) (λ v. isSome (implementation M c v))
+  pub li-lists : (c : ℕ) → Lists (byName (t .vers) versions (λ v. isSome (implementation M c v)))
+      (λ v. isSome (implementation M c v))
   li-lists c = byName-lists _ _ _ (λ n e. let q = isSome-out _ e in g .moduleLimits .implementation< c n (q .0) (q .1) .0)
 
   pub lu-lists : (s : ℕ) → Lists (byName (t .comps) components (usable Y s)) (usable Y s)
@@ -146,7 +163,8 @@ module _ (b : Book) (t : Tables) (g : Good b) (nm : Named (record { book = b; ta
 
   pub lm-lists : (s v : ℕ) → Lists (byName (t .comps) components (isMember Y s v)) (isMember Y s v)
   unfolding isMember
-  lm-lists s v = byName-lists _ _ _ (λ n e. let q = isSome-out (member Y s v n) e in g .systemLimits .member< s v n (q .0) (q .1) .0)
+  lm-lists s v = byName-lists _ _ _ (λ n e. let q = isSome-out (member Y s v n) e in
+      g .systemLimits .member< s v n (q .0) (q .1) .0)
 
   -- ---- what a command mentions passes a test that each name in the book passes
 
@@ -170,10 +188,15 @@ module _ (b : Book) (t : Tables) (g : Good b) (nm : Named (record { book = b; ta
     unfolding mentioned specOf specNames facilityNames
     spec-passes c e = record {
       comps = every-cons tc _ _ (h .component c e) (every-none tc);
-      vers = every-firsts tv (nameAt (t .vers)) (λ v. facilityNames t (requires S c v)) (byName (t .vers) versions (hasVersion S c)) (λ v k. h .version c v (sym (lv-lists c .each v) ∙ k));
-      facs = every-append tf (facilityNames t (provides S c)) _ (every-of tf (nameAt (t .facs)) (byName (t .facs) facilities (provides S c)) (λ f k. h .provided c f (sym (lp-lists c .each f) ∙ k)))
-          (every-lists tf (λ x. x .1) (λ v. (nameAt (t .vers) v, facilityNames t (requires S c v))) (byName (t .vers) versions (hasVersion S c))
-            (λ v j. every-of tf (nameAt (t .facs)) (byName (t .facs) facilities (requires S c v)) (λ f k. h .required c v f (sym (lq-lists c v .each f) ∙ k))));
+      vers = every-firsts tv (nameAt (t .vers)) (λ v. facilityNames t (requires S c v))
+          (byName (t .vers) versions (hasVersion S c)) (λ v k. h .version c v (sym (lv-lists c .each v) ∙ k));
+      facs = every-append tf (facilityNames t (provides S c)) _
+          (every-of tf (nameAt (t .facs)) (byName (t .facs) facilities (provides S c))
+          (λ f k. h .provided c f (sym (lp-lists c .each f) ∙ k)))
+          (every-lists tf (λ x. x .1) (λ v. (nameAt (t .vers) v, facilityNames t (requires S c v)))
+          (byName (t .vers) versions (hasVersion S c))
+          (λ v j. every-of tf (nameAt (t .facs)) (byName (t .facs) facilities (requires S c v))
+          (λ f k. h .required c v f (sym (lq-lists c v .each f) ∙ k))));
       impls = every-none ti;
     }
 
@@ -184,16 +207,20 @@ module _ (b : Book) (t : Tables) (g : Good b) (nm : Named (record { book = b; ta
         let at : ℕ → Name = λ v. nameAt (t .impls) (orElse (implementation M c v) 0) in
         record {
           comps = every-cons tc _ _ (h .component c (g .b2 .mod-spec c e)) (every-none tc);
-          vers = every-firsts tv (nameAt (t .vers)) at l (λ v k. h .version c v (sym (g .b2 .mod-covers c v e) ∙ sym (li-lists c .each v) ∙ k));
+          vers = every-firsts tv (nameAt (t .vers)) at l
+              (λ v k. h .version c v (sym (g .b2 .mod-covers c v e) ∙ sym (li-lists c .each v) ∙ k));
           facs = every-none tf;
-          impls = every-seconds ti (nameAt (t .vers)) at l (λ v k. let q = isSome-out _ (sym (li-lists c .each v) ∙ k) in ap (λ (o : Option ℕ). ti (nameAt (t .impls) (orElse o 0))) (q .1) ∙ h .implemented c v (q .0) (q .1));
+          impls = every-seconds ti (nameAt (t .vers)) at l (λ v k. let q = isSome-out _ (sym (li-lists c .each v) ∙ k) in
+              ap (λ (o : Option ℕ). ti (nameAt (t .impls) (orElse o 0))) (q .1) ∙ h .implemented c v (q .0) (q .1));
         }
 
-    member-names : (s v : ℕ) → memberNames (membersOf b t s v) ≡ map (nameAt (t .comps)) (byName (t .comps) components (isMember Y s v))
+    member-names : (s v : ℕ) → memberNames (membersOf b t s v)
+        ≡ map (nameAt (t .comps)) (byName (t .comps) components (isMember Y s v))
     unfolding memberNames membersOf
     member-names s v = map-map _ _ (byName (t .comps) components (isMember Y s v))
 
-    member-versions : (s v : ℕ) → memberVersions (membersOf b t s v) ≡ map (λ c. nameAt (t .vers) (orElse (member Y s v c) 0)) (byName (t .comps) components (isMember Y s v))
+    member-versions : (s v : ℕ) → memberVersions (membersOf b t s v)
+        ≡ map (λ c. nameAt (t .vers) (orElse (member Y s v c) 0)) (byName (t .comps) components (isMember Y s v))
     unfolding memberVersions membersOf
     member-versions s v = given-some _ _ (byName (t .comps) components (isMember Y s v))
 
@@ -207,22 +234,31 @@ module _ (b : Book) (t : Tables) (g : Good b) (nm : Named (record { book = b; ta
         let at : ℕ → Name × NamedMembers = λ v. (nameAt (t .vers) v, membersOf b t s v) in
         let l = byName (t .vers) versions (composed Y s) in
         record {
-          comps = every-cons tc _ _ (h .component s (g .b2 .sys-spec s e)) (every-append tc (map (nameAt (t .comps)) (byName (t .comps) components (usable Y s))) _
-              (every-of tc (nameAt (t .comps)) (byName (t .comps) components (usable Y s)) (λ c k. h .component c (g .b2 .use-spec s c (sym (lu-lists s .each c) ∙ k))))
+          comps = every-cons tc _ _ (h .component s (g .b2 .sys-spec s e))
+              (every-append tc (map (nameAt (t .comps)) (byName (t .comps) components (usable Y s))) _
+              (every-of tc (nameAt (t .comps)) (byName (t .comps) components (usable Y s))
+              (λ c k. h .component c (g .b2 .use-spec s c (sym (lu-lists s .each c) ∙ k))))
               (every-lists tc (λ x. memberNames (x .1)) at l (λ v j. ap (every tc) (member-names s v)
-                ∙ every-of tc (nameAt (t .comps)) (byName (t .comps) components (isMember Y s v)) (λ c k. let q = at-member s v c k in h .component c (g .b2 .use-spec s c (mem-usable S Y (g .systemLimits) (g .b5) s v c (q .0) (q .1) .0))))));
-          vers = every-lists tv (λ x. x .0 ∷ memberVersions (x .1)) at l (λ v j. every-cons tv _ _ (h .version s v (sym (g .b2 .sys-covers s v e) ∙ sym (lk-lists s .each v) ∙ j))
+              ∙ every-of tc (nameAt (t .comps)) (byName (t .comps) components (isMember Y s v))
+              (λ c k. let q = at-member s v c k in
+              h .component c (g .b2 .use-spec s c (mem-usable S Y (g .systemLimits) (g .b5) s v c (q .0) (q .1) .0))))));
+          vers = every-lists tv (λ x. x .0 ∷ memberVersions (x .1)) at l
+              (λ v j. every-cons tv _ _ (h .version s v (sym (g .b2 .sys-covers s v e) ∙ sym (lk-lists s .each v) ∙ j))
               (ap (every tv) (member-versions s v)
-              ∙ every-of tv (λ c. nameAt (t .vers) (orElse (member Y s v c) 0)) (byName (t .comps) components (isMember Y s v)) (λ c k. let q = at-member s v c k in ap (λ (o : Option ℕ). tv (nameAt (t .vers) (orElse o 0))) (q .1) ∙ h .version c (q .0) (mem-usable S Y (g .systemLimits) (g .b5) s v c (q .0) (q .1) .1))));
+              ∙ every-of tv (λ c. nameAt (t .vers) (orElse (member Y s v c) 0)) (byName (t .comps) components (isMember Y s v))
+              (λ c k. let q = at-member s v c k in ap (λ (o : Option ℕ). tv (nameAt (t .vers) (orElse o 0))) (q .1)
+              ∙ h .version c (q .0) (mem-usable S Y (g .systemLimits) (g .b5) s v c (q .0) (q .1) .1))));
           facs = every-none tf;
           impls = every-none ti;
         }
 
-    pub all-pass : (sel : Tables → List Name) (test : Name → Bool) → ((k : Said) → AllPass k → every test (sel (mentioned k)) ≡ true) → every test (joined (map (λ k. sel (mentioned k)) (asCommands b t))) ≡ true
+    pub all-pass : (sel : Tables → List Name) (test : Name → Bool)
+        → ((k : Said) → AllPass k → every test (sel (mentioned k)) ≡ true)
+        → every test (joined (map (λ k. sel (mentioned k)) (asCommands b t))) ≡ true
     unfolding asCommands systemsInOrder
     all-pass sel test f = every-joined test (λ k. sel (mentioned k)) _
         (every-append _ (map (specOf b t) (byName (t .comps) components (specified S))) _
-          (every-of _ (specOf b t) _ (λ c e. f _ (spec-passes c (sym (cs-lists .each c) ∙ e))))
+        (every-of _ (specOf b t) _ (λ c e. f _ (spec-passes c (sym (cs-lists .each c) ∙ e))))
         (every-append _ (map (modOf b t) (byName (t .comps) components (isModule M))) _
-          (every-of _ (modOf b t) _ (λ c e. f _ (mod-passes c (sym (ms-lists .each c) ∙ e))))
-          (every-of _ (sysOf b t) _ (λ s e. f _ (sys-passes s (systems-are b g _ ys-lists components [] s e))))))
+        (every-of _ (modOf b t) _ (λ c e. f _ (mod-passes c (sym (ms-lists .each c) ∙ e))))
+        (every-of _ (sysOf b t) _ (λ s e. f _ (sys-passes s (systems-are b g _ ys-lists components [] s e))))))

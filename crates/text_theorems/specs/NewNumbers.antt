@@ -42,11 +42,16 @@ module _ (b : Book) (t : Tables) (g : Good b) (nm : Named (record { book = b; ta
       (known (t .impls) implementations)
   unfolding known
   known-names = record {
-    component = λ c e. has-in _ _ c (place-of _ (nm .comps-once) c (valid-some _ (nm .component c e))) (<?-in _ _ (g .specLimits .component< c e));
-    version = λ c v e. has-in _ _ v (place-of _ (nm .vers-once) v (valid-some _ (nm .version c v e))) (<?-in _ _ (g .specLimits .version< c v e));
-    provided = λ c f e. has-in _ _ f (place-of _ (nm .facs-once) f (valid-some _ (nm .provided c f e))) (<?-in _ _ (g .specLimits .provided< c f e));
-    required = λ c v f e. has-in _ _ f (place-of _ (nm .facs-once) f (valid-some _ (nm .required c v f e))) (<?-in _ _ (g .specLimits .required< c v f e));
-    implemented = λ c v i e. has-in _ _ i (place-of _ (nm .impls-once) i (impl-some _ (nm .implemented c v i e))) (<?-in _ _ (g .moduleLimits .implementation< c v i e .1));
+    component = λ c e. has-in _ _ c (place-of _ (nm .comps-once) c (valid-some _ (nm .component c e)))
+        (<?-in _ _ (g .specLimits .component< c e));
+    version = λ c v e. has-in _ _ v (place-of _ (nm .vers-once) v (valid-some _ (nm .version c v e)))
+        (<?-in _ _ (g .specLimits .version< c v e));
+    provided = λ c f e. has-in _ _ f (place-of _ (nm .facs-once) f (valid-some _ (nm .provided c f e)))
+        (<?-in _ _ (g .specLimits .provided< c f e));
+    required = λ c v f e. has-in _ _ f (place-of _ (nm .facs-once) f (valid-some _ (nm .required c v f e)))
+        (<?-in _ _ (g .specLimits .required< c v f e));
+    implemented = λ c v i e. has-in _ _ i (place-of _ (nm .impls-once) i (impl-some _ (nm .implemented c v i e)))
+        (<?-in _ _ (g .moduleLimits .implementation< c v i e .1));
   }
 
   unfoldable pub T : Tables
@@ -100,14 +105,20 @@ module _ (b : Book) (t : Tables) (g : Good b) (nm : Named (record { book = b; ta
 
   -- ---- each number of the book has its name there
 
-  mention-spec : (sel : Tables → List Name) (w : Name) (c : ℕ) → specified S c ≡ true → among w (sel (mentioned (specOf b t c))) ≡ true → among w (joined (map (λ k. sel (mentioned k)) (asCommands b t))) ≡ true
+  mention-spec : (sel : Tables → List Name) (w : Name) (c : ℕ) → specified S c ≡ true → among w (sel (mentioned (specOf b t c)))
+      ≡ true → among w (joined (map (λ k. sel (mentioned k)) (asCommands b t))) ≡ true
   unfolding asCommands
-  mention-spec sel w c e a = among-seg1 w (λ k. sel (mentioned k)) (map (specOf b t) (byName (t .comps) components (specified S))) _ (among-of w (λ k. sel (mentioned k)) (specOf b t) _ c (cs-lists b t g nm .each c ∙ e) a)
+  mention-spec sel w c e a = among-seg1 w (λ k. sel (mentioned k))
+      (map (specOf b t) (byName (t .comps) components (specified S))) _
+      (among-of w (λ k. sel (mentioned k)) (specOf b t) _ c (cs-lists b t g nm .each c ∙ e) a)
 
-  mention-mod : (sel : Tables → List Name) (w : Name) (c : ℕ) → isModule M c ≡ true → among w (sel (mentioned (modOf b t c))) ≡ true → among w (joined (map (λ k. sel (mentioned k)) (asCommands b t))) ≡ true
+  mention-mod : (sel : Tables → List Name) (w : Name) (c : ℕ) → isModule M c ≡ true → among w (sel (mentioned (modOf b t c)))
+      ≡ true → among w (joined (map (λ k. sel (mentioned k)) (asCommands b t))) ≡ true
   unfolding asCommands
-  mention-mod sel w c e a = among-seg2 w (λ k. sel (mentioned k)) (map (specOf b t) (byName (t .comps) components (specified S))) _
-      (among-seg1 w (λ k. sel (mentioned k)) (map (modOf b t) (byName (t .comps) components (isModule M))) _ (among-of w (λ k. sel (mentioned k)) (modOf b t) _ c (ms-lists b t g nm .each c ∙ e) a))
+  mention-mod sel w c e a = among-seg2 w (λ k. sel (mentioned k))
+      (map (specOf b t) (byName (t .comps) components (specified S))) _
+      (among-seg1 w (λ k. sel (mentioned k)) (map (modOf b t) (byName (t .comps) components (isModule M))) _
+      (among-of w (λ k. sel (mentioned k)) (modOf b t) _ c (ms-lists b t g nm .each c ∙ e) a))
 
   into : (ws : List Name) (w : Name) (t′ : Table) → t′ ≡ enter [] ws → among w ws ≡ true → among w t′ ≡ true
   into ws w t′ e a = ap (among w) e ∙ every-among (λ x. among x (enter [] ws)) ws w (enter-has [] ws) a
@@ -124,24 +135,31 @@ module _ (b : Book) (t : Tables) (g : Good b) (nm : Named (record { book = b; ta
   hasV c v e = into _ _ _ (entered-vers noNames _) (mention-spec (λ m. m .vers) _ c (version-specified S c v e) here)
     where
       here : among (nameAt (t .vers) v) (mentioned (specOf b t c) .vers) ≡ true
-      here = unfold mentioned specOf specNames in among-map (λ (x : Name × List Name). x .0) (λ v. (nameAt (t .vers) v, facilityNames t (requires S c v))) (byName (t .vers) versions (hasVersion S c)) v (lv-lists b t g nm c .each v ∙ e)
+      here = unfold mentioned specOf specNames in
+          among-map (λ (x : Name × List Name). x .0) (λ v. (nameAt (t .vers) v, facilityNames t (requires S c v)))
+          (byName (t .vers) versions (hasVersion S c)) v (lv-lists b t g nm c .each v ∙ e)
 
   hasP : (c f : ℕ) → provides S c f ≡ true → specified S c ≡ true → among (nameAt (t .facs) f) (T .facs) ≡ true
   unfolding T
   hasP c f e k = into _ _ _ (entered-facs noNames _) (mention-spec (λ m. m .facs) _ c k here)
     where
       here : among (nameAt (t .facs) f) (mentioned (specOf b t c) .facs) ≡ true
-      here = unfold mentioned specOf specNames in among-l _ (facilityNames t (provides S c)) _ (unfold facilityNames in among-names-in (nameAt (t .facs)) (byName (t .facs) facilities (provides S c)) f (lp-lists b t g nm c .each f ∙ e))
+      here = unfold mentioned specOf specNames in
+          among-l _ (facilityNames t (provides S c)) _ (unfold facilityNames in
+          among-names-in (nameAt (t .facs)) (byName (t .facs) facilities (provides S c)) f (lp-lists b t g nm c .each f ∙ e))
 
   hasQ : (c v f : ℕ) → requires S c v f ≡ true → hasVersion S c v ≡ true → among (nameAt (t .facs) f) (T .facs) ≡ true
   unfolding T
   hasQ c v f e k = into _ _ _ (entered-facs noNames _) (mention-spec (λ m. m .facs) _ c (version-specified S c v k) here)
     where
       inner : among (nameAt (t .facs) f) (facilityNames t (requires S c v)) ≡ true
-      inner = unfold facilityNames in among-names-in (nameAt (t .facs)) (byName (t .facs) facilities (requires S c v)) f (lq-lists b t g nm c v .each f ∙ e)
+      inner = unfold facilityNames in among-names-in (nameAt (t .facs)) (byName (t .facs) facilities (requires S c v)) f
+          (lq-lists b t g nm c v .each f ∙ e)
+
       here : among (nameAt (t .facs) f) (mentioned (specOf b t c) .facs) ≡ true
       here = unfold mentioned specOf specNames in among-r _ (facilityNames t (provides S c)) _
-          (among-of _ (λ (x : Name × List Name). x .1) (λ v. (nameAt (t .vers) v, facilityNames t (requires S c v))) (byName (t .vers) versions (hasVersion S c)) v (lv-lists b t g nm c .each v ∙ k) inner)
+          (among-of _ (λ (x : Name × List Name). x .1) (λ v. (nameAt (t .vers) v, facilityNames t (requires S c v)))
+          (byName (t .vers) versions (hasVersion S c)) v (lv-lists b t g nm c .each v ∙ k) inner)
 
   hasI : (c v i : ℕ) → implementation M c v ≡ some i → among (nameAt (t .impls) i) (T .impls) ≡ true
   unfolding T
@@ -149,11 +167,16 @@ module _ (b : Book) (t : Tables) (g : Good b) (nm : Named (record { book = b; ta
     where
       h : ℕ → Name
       h v = nameAt (t .impls) (orElse (implementation M c v) 0)
+
       at : h v ≡ nameAt (t .impls) i
       at = unfold orElse in ap (λ (o : Option ℕ). nameAt (t .impls) (orElse o 0)) e
+
       here : among (nameAt (t .impls) i) (mentioned (modOf b t c) .impls) ≡ true
-      here = unfold mentioned modOf modNames in subst (λ (w : Name). among w (map (λ (x : Name × Name). x .1) (map (λ v. (nameAt (t .vers) v, h v)) (byName (t .vers) versions (λ v. isSome (implementation M c v))))) ≡ true) at
-          (among-map (λ (x : Name × Name). x .1) (λ v. (nameAt (t .vers) v, h v)) (byName (t .vers) versions (λ v. isSome (implementation M c v))) v (li-lists b t g nm c .each v ∙ isSome-in _ e))
+      here = unfold mentioned modOf modNames in
+          subst (λ (w : Name). among w (map (λ (x : Name × Name). x .1)
+          (map (λ v. (nameAt (t .vers) v, h v)) (byName (t .vers) versions (λ v. isSome (implementation M c v))))) ≡ true) at
+          (among-map (λ (x : Name × Name). x .1) (λ v. (nameAt (t .vers) v, h v))
+          (byName (t .vers) versions (λ v. isSome (implementation M c v))) v (li-lists b t g nm c .each v ∙ isSome-in _ e))
 
   -- ---- from the book's numbers to the session's
 
@@ -182,42 +205,72 @@ module _ (b : Book) (t : Tables) (g : Good b) (nm : Named (record { book = b; ta
   gi = new (t .impls) (T .impls)
 
   pub reC : Renaming fc gc components (UsedC S)
-  reC = renaming (t .comps) (T .comps) components (UsedC S) (nm .comps-once) comps-apart (known-fits (t .comps) components (T .comps) comps-apart comps-known)
+  reC = renaming (t .comps) (T .comps) components (UsedC S) (nm .comps-once) comps-apart
+      (known-fits (t .comps) components (T .comps) comps-apart comps-known)
       (λ c e. (g .specLimits .component< c e, valid-some _ (nm .component c e), hasC c e))
 
-  usedV : (v : ℕ) → UsedV S v → (v < versions) × (nonEmpty (nameAt (t .vers) v) ≡ true) × (among (nameAt (t .vers) v) (T .vers) ≡ true)
+  usedV : (v : ℕ) → UsedV S v → (v < versions) × (nonEmpty (nameAt (t .vers) v) ≡ true) × (among (nameAt (t .vers) v) (T .vers)
+      ≡ true)
   usedV v (versionOf c e) = (g .specLimits .version< c v e, valid-some _ (nm .version c v e), hasV c v e)
 
   pub reV : Renaming fv gv versions (UsedV S)
-  reV = renaming (t .vers) (T .vers) versions (UsedV S) (nm .vers-once) vers-apart (known-fits (t .vers) versions (T .vers) vers-apart vers-known) usedV
+  reV = renaming (t .vers) (T .vers) versions (UsedV S) (nm .vers-once) vers-apart
+      (known-fits (t .vers) versions (T .vers) vers-apart vers-known) usedV
 
-  usedF : (f : ℕ) → UsedF S f → (f < facilities) × (nonEmpty (nameAt (t .facs) f) ≡ true) × (among (nameAt (t .facs) f) (T .facs) ≡ true)
-  usedF f (providedBy c e) = (g .specLimits .provided< c f e, valid-some _ (nm .provided c f e), hasP c f e (provides-specified S c f e))
-  usedF f (requiredBy c v e) = (g .specLimits .required< c v f e, valid-some _ (nm .required c v f e), hasQ c v f e (requires-version S c v f e))
+  usedF : (f : ℕ) → UsedF S f → (f < facilities) × (nonEmpty (nameAt (t .facs) f) ≡ true) × (among (nameAt (t .facs) f) (T .facs)
+      ≡ true)
+  usedF f (providedBy c e) = (
+    g .specLimits .provided< c f e,
+    valid-some _ (nm .provided c f e),
+    hasP c f e
+        (provides-specified S c f e),
+  )
+  usedF f (requiredBy c v e) = (
+    g .specLimits .required< c v f e,
+    valid-some _ (nm .required c v f e),
+    hasQ c v f e
+        (requires-version S c v f e),
+  )
 
   pub reF : Renaming ff gf facilities (UsedF S)
-  reF = renaming (t .facs) (T .facs) facilities (UsedF S) (nm .facs-once) facs-apart (known-fits (t .facs) facilities (T .facs) facs-apart facs-known) usedF
+  reF = renaming (t .facs) (T .facs) facilities (UsedF S) (nm .facs-once) facs-apart
+      (known-fits (t .facs) facilities (T .facs) facs-apart facs-known) usedF
 
-  usedI : (i : ℕ) → UsedI M i → (i < implementations) × (nonEmpty (nameAt (t .impls) i) ≡ true) × (among (nameAt (t .impls) i) (T .impls) ≡ true)
-  usedI i (implementationOf c v e) = (g .moduleLimits .implementation< c v i e .1, impl-some _ (nm .implemented c v i e), hasI c v i e)
+  usedI : (i : ℕ) → UsedI M i → (i < implementations) × (nonEmpty (nameAt (t .impls) i) ≡ true) ×
+      (among (nameAt (t .impls) i) (T .impls) ≡ true)
+  usedI i (implementationOf c v e) = (
+    g .moduleLimits .implementation< c v i e .1,
+    impl-some _ (nm .implemented c v i e),
+    hasI c v i e,
+  )
 
   pub reI : Renaming fi gi implementations (UsedI M)
-  reI = renaming (t .impls) (T .impls) implementations (UsedI M) (nm .impls-once) impls-apart (known-fits (t .impls) implementations (T .impls) impls-apart impls-known) usedI
+  reI = renaming (t .impls) (T .impls) implementations (UsedI M) (nm .impls-once) impls-apart
+      (known-fits (t .impls) implementations (T .impls) impls-apart impls-known) usedI
 
-  usedC : (c : ℕ) → UsedC S c → (c < components) × (nonEmpty (nameAt (t .comps) c) ≡ true) × (among (nameAt (t .comps) c) (T .comps) ≡ true)
+  usedC : (c : ℕ) → UsedC S c → (c < components) × (nonEmpty (nameAt (t .comps) c) ≡ true) ×
+      (among (nameAt (t .comps) c) (T .comps) ≡ true)
   usedC c e = (g .specLimits .component< c e, valid-some _ (nm .component c e), hasC c e)
 
-  pub atC : (w : Name) (P P′ : ℕ → Bool) → ((m : ℕ) → P′ m ≡ P (fc m)) → ((n : ℕ) → P n ≡ true → UsedC S n) → has (place (T .comps) w) P′ ≡ has (place (t .comps) w) P
-  atC = at-through (t .comps) (T .comps) components (UsedC S) (nm .comps-once) comps-apart (known-fits (t .comps) components (T .comps) comps-apart comps-known) usedC
+  pub atC : (w : Name) (P P′ : ℕ → Bool) → ((m : ℕ) → P′ m ≡ P (fc m)) → ((n : ℕ) → P n ≡ true → UsedC S n)
+      → has (place (T .comps) w) P′ ≡ has (place (t .comps) w) P
+  atC = at-through (t .comps) (T .comps) components (UsedC S) (nm .comps-once) comps-apart
+      (known-fits (t .comps) components (T .comps) comps-apart comps-known) usedC
 
-  pub atV : (w : Name) (P P′ : ℕ → Bool) → ((m : ℕ) → P′ m ≡ P (fv m)) → ((n : ℕ) → P n ≡ true → UsedV S n) → has (place (T .vers) w) P′ ≡ has (place (t .vers) w) P
-  atV = at-through (t .vers) (T .vers) versions (UsedV S) (nm .vers-once) vers-apart (known-fits (t .vers) versions (T .vers) vers-apart vers-known) usedV
+  pub atV : (w : Name) (P P′ : ℕ → Bool) → ((m : ℕ) → P′ m ≡ P (fv m)) → ((n : ℕ) → P n ≡ true → UsedV S n)
+      → has (place (T .vers) w) P′ ≡ has (place (t .vers) w) P
+  atV = at-through (t .vers) (T .vers) versions (UsedV S) (nm .vers-once) vers-apart
+      (known-fits (t .vers) versions (T .vers) vers-apart vers-known) usedV
 
-  pub atF : (w : Name) (P P′ : ℕ → Bool) → ((m : ℕ) → P′ m ≡ P (ff m)) → ((n : ℕ) → P n ≡ true → UsedF S n) → has (place (T .facs) w) P′ ≡ has (place (t .facs) w) P
-  atF = at-through (t .facs) (T .facs) facilities (UsedF S) (nm .facs-once) facs-apart (known-fits (t .facs) facilities (T .facs) facs-apart facs-known) usedF
+  pub atF : (w : Name) (P P′ : ℕ → Bool) → ((m : ℕ) → P′ m ≡ P (ff m)) → ((n : ℕ) → P n ≡ true → UsedF S n)
+      → has (place (T .facs) w) P′ ≡ has (place (t .facs) w) P
+  atF = at-through (t .facs) (T .facs) facilities (UsedF S) (nm .facs-once) facs-apart
+      (known-fits (t .facs) facilities (T .facs) facs-apart facs-known) usedF
 
-  pub atI : (w : Name) (P P′ : ℕ → Bool) → ((m : ℕ) → P′ m ≡ P (fi m)) → ((n : ℕ) → P n ≡ true → UsedI M n) → has (place (T .impls) w) P′ ≡ has (place (t .impls) w) P
-  atI = at-through (t .impls) (T .impls) implementations (UsedI M) (nm .impls-once) impls-apart (known-fits (t .impls) implementations (T .impls) impls-apart impls-known) usedI
+  pub atI : (w : Name) (P P′ : ℕ → Bool) → ((m : ℕ) → P′ m ≡ P (fi m)) → ((n : ℕ) → P n ≡ true → UsedI M n)
+      → has (place (T .impls) w) P′ ≡ has (place (t .impls) w) P
+  atI = at-through (t .impls) (T .impls) implementations (UsedI M) (nm .impls-once) impls-apart
+      (known-fits (t .impls) implementations (T .impls) impls-apart impls-known) usedI
 
   abbrev pub renumbering : Renumbering S M
   renumbering = record { fc = fc; gc = gc; fv = fv; gv = gv; ff = ff; gf = gf; fi = fi; gi = gi; ofC = reC; ofV = reV; ofF = reF; ofI = reI }

@@ -32,7 +32,8 @@ module _ (t T : Table) (L : ℕ) (Use : ℕ → Type 0) (ot : Once t) (aT : apar
     (used : (n : ℕ) → Use n → (n < L) × (nonEmpty (nameAt t n) ≡ true) × (among (nameAt t n) T ≡ true)) where
   at-new : (n : ℕ) → Use n → place T (nameAt t n) ≡ some (new t T n)
   unfolding new
-  at-new n u = let q = isSome-out _ (place-there T (nameAt t n) (used n u .2)) in q .1 ∙ ap some (sym (number-at T (nameAt t n) (q .0) (q .1)))
+  at-new n u = let q = isSome-out _ (place-there T (nameAt t n) (used n u .2)) in q .1
+      ∙ ap some (sym (number-at T (nameAt t n) (q .0) (q .1)))
 
   old-at : (m n : ℕ) → place t (nameAt T m) ≡ some n → old t T L m ≡ n
   unfolding old orElse
@@ -50,24 +51,27 @@ module _ (t T : Table) (L : ℕ) (Use : ℕ → Type 0) (ot : Once t) (aT : apar
 
   pub renaming : Renaming (old t T L) (new t T) L Use
   renaming = record {
-    back = λ n u. old-at (new t T n) n (ap (place t) (place-name T (nameAt t n) (new t T n) (at-new n u) .0) ∙ place-of t ot n (used n u .1));
+    back = λ n u. old-at (new t T n) n (ap (place t) (place-name T (nameAt t n) (new t T n) (at-new n u) .0)
+        ∙ place-of t ot n (used n u .1));
     small = λ n u. le-trans (place-name T (nameAt t n) (new t T n) (at-new n u) .1) short;
     forth = λ m u. elim (option? (place t (nameAt T m))) [
       | inl e ↦ (let h = used _ u .0 in let z = old-no m e in absurd (omega arith))
-      | inr q ↦ (let z = old-at m (q .0) (q .1) in ap (new t T) z ∙ new-old m (q .0) (q .1) (subst (λ (k : ℕ). nonEmpty (nameAt t k) ≡ true) z (used _ u .1)))
+      | inr q ↦ (let z = old-at m (q .0) (q .1) in ap (new t T) z
+          ∙ new-old m (q .0) (q .1) (subst (λ (k : ℕ). nonEmpty (nameAt t k) ≡ true) z (used _ u .1)))
     ];
   }
 
   -- a test at a name's number, in T and in t
-  pub at-through : (w : Name) (P P′ : ℕ → Bool) → ((m : ℕ) → P′ m ≡ P (old t T L m)) → ((n : ℕ) → P n ≡ true → Use n) → has (place T w) P′ ≡ has (place t w) P
+  pub at-through : (w : Name) (P P′ : ℕ → Bool) → ((m : ℕ) → P′ m ≡ P (old t T L m)) → ((n : ℕ) → P n ≡ true → Use n)
+      → has (place T w) P′ ≡ has (place t w) P
   at-through w P P′ h u = iff→≡ _ _
       (λ e. let q = has-out _ _ e in let m = q .0 in let a = place-name T w m (q .1) .0 in let k = sym (h m) ∙ q .2 in
-        elim (option? (place t (nameAt T m))) [
-          | inl z ↦ (let b = used _ (u _ k) .0 in let c = old-no m z in absurd (omega arith))
-          | inr z ↦ has-in _ _ (z .0) (ap (place t) (sym a) ∙ z .1) (ap P (sym (old-at m (z .0) (z .1))) ∙ k)
-        ])
+      elim (option? (place t (nameAt T m))) [
+        | inl z ↦ (let b = used _ (u _ k) .0 in let c = old-no m z in absurd (omega arith))
+        | inr z ↦ has-in _ _ (z .0) (ap (place t) (sym a) ∙ z .1) (ap P (sym (old-at m (z .0) (z .1))) ∙ k)
+      ])
       (λ e. let q = has-out _ _ e in let n = q .0 in let a = place-name t w n (q .1) .0 in let k = u n (q .2) in
-        has-in _ _ (new t T n) (ap (place T) (sym a) ∙ at-new n k) (h _ ∙ ap P (renaming .back n k) ∙ q .2))
+      has-in _ _ (new t T n) (ap (place T) (sym a) ∙ at-new n k) (h _ ∙ ap P (renaming .back n k) ∙ q .2))
 
 -- two numbers are equal, in either table
 pub eq-through : (f g : ℕ → ℕ) (L : ℕ) (Use : ℕ → Type 0) → Renaming f g L Use → (m d : ℕ) → Use d → (m == g d) ≡ (f m == d)

@@ -29,7 +29,11 @@ first-none test [] e n k = clash k refl
 first-none test (x ∷ xs) e n k =
     elim (bool? (test x)) [
       | inl q ↦ no-some (sym e ∙ if-true _ _ _ q)
-      | inr q ↦ elim (or-out _ _ k) [ inl z ↦ ap test (==-out _ _ z) ∙ q | inr z ↦ first-none test xs (sym (if-false _ _ _ q) ∙ e) n z ]
+      | inr q ↦ elim (or-out _ _ k) [
+        | inl z ↦ ap test (==-out _ _ z)
+            ∙ q
+        | inr z ↦ first-none test xs (sym (if-false _ _ _ q) ∙ e) n z
+      ]
     ]
 
 first-some : (test : ℕ → Bool) (l : List ℕ) (n : ℕ) → firstOf test l ≡ some n → (elem n l ≡ true) × (test n ≡ true)
@@ -37,16 +41,19 @@ unfolding firstOf elem
 first-some test [] n e = no-some e
 first-some test (x ∷ xs) n e =
     elim (bool? (test x)) [
-      | inl q ↦ (let z : x ≡ n = Option·some-injective _ _ (sym (if-true _ _ _ q) ∙ e) in (or-l _ _ (==-in _ _ (sym z)), ap test (sym z) ∙ q))
+      | inl q ↦ (let z : x ≡ n = Option·some-injective _ _ (sym (if-true _ _ _ q) ∙ e) in
+          (or-l _ _ (==-in _ _ (sym z)), ap test (sym z) ∙ q))
       | inr q ↦ (let r = first-some test xs n (sym (if-false _ _ _ q) ∙ e) in (or-r _ _ (r .0), r .1))
     ]
 
 -- the next system, or none
-pub from-none : (n : ℕ) (Y : Systems) (ss out : List ℕ) → firstOf (λ s. ~ (elem s out) & ready Y out s) ss ≡ none → systemsFrom (suc n) Y ss out ≡ []
+pub from-none : (n : ℕ) (Y : Systems) (ss out : List ℕ) → firstOf (λ s. ~ (elem s out) & ready Y out s) ss ≡ none
+    → systemsFrom (suc n) Y ss out ≡ []
 unfolding systemsFrom ifFound
 from-none n Y ss out e = ap (λ (o : Option ℕ). ifFound o (λ s. s ∷ systemsFrom n Y ss (s ∷ out))) e
 
-pub from-some : (n : ℕ) (Y : Systems) (ss out : List ℕ) (x : ℕ) → firstOf (λ s. ~ (elem s out) & ready Y out s) ss ≡ some x → systemsFrom (suc n) Y ss out ≡ x ∷ systemsFrom n Y ss (x ∷ out)
+pub from-some : (n : ℕ) (Y : Systems) (ss out : List ℕ) (x : ℕ) → firstOf (λ s. ~ (elem s out) & ready Y out s) ss ≡ some x
+    → systemsFrom (suc n) Y ss out ≡ x ∷ systemsFrom n Y ss (x ∷ out)
 unfolding systemsFrom ifFound
 from-some n Y ss out x e = ap (λ (o : Option ℕ). ifFound o (λ s. s ∷ systemsFrom n Y ss (s ∷ out))) e
 
@@ -67,12 +74,14 @@ module _ (b : Book) (g : Good b) (ss : List ℕ) (ks : Lists ss (isSystem (b .sy
   ready-in out s c r u k = imp-out _ _ (imp-out _ _ (all-out _ _ r c (g .systemLimits .usable< s c u)) u) k
 
   -- of the systems that are not out, one has its usable systems out
-  lowest : (h : ℕ) (out : List ℕ) (s : ℕ) → systemsBelow Y s ≤ h → isSystem Y s ≡ true → elem s out ≡ false → (x : ℕ) × (isSystem Y x ≡ true) × (test out x ≡ true)
+  lowest : (h : ℕ) (out : List ℕ) (s : ℕ) → systemsBelow Y s ≤ h → isSystem Y s ≡ true → elem s out ≡ false
+      → (x : ℕ) × (isSystem Y x ≡ true) × (test out x ≡ true)
   unfolding ready
   lowest zero out s le k e =
       elim (bool? (ready Y out s)) [
         | inl r ↦ (s, k, and-in _ _ (not-in _ e) r)
-        | inr r ↦ (let q = all-no _ _ r in let u = imp-no _ _ (q .2) .0 in let f = falls Y (good→sound b g) s (q .0) u in absurd (omega arith))
+        | inr r ↦ (let q = all-no _ _ r in let u = imp-no _ _ (q .2) .0 in let f = falls Y (good→sound b g) s (q .0) u in
+            absurd (omega arith))
       ]
   lowest (suc h) out s le k e =
       elim (bool? (ready Y out s)) [
@@ -87,8 +96,11 @@ module _ (b : Book) (g : Good b) (ss : List ℕ) (ks : Lists ss (isSystem (b .sy
   left-falls : (out : List ℕ) (x : ℕ) → isSystem Y x ≡ true → elem x out ≡ false → left (x ∷ out) < left out
   unfolding left elem
   left-falls out x k e =
-      count-strict components _ _ (λ i l t. and-in _ _ (and-l _ _ t) (not-in _ (fails _ (λ z. clash {A = ⊥} (or-r (i == x) (elem i out) z) (not-out _ (and-r _ _ t))))))
-      x (g .systemLimits .component< x k) (fails _ (λ t. clash {A = ⊥} (or-l (x == x) (elem x out) (==-same x)) (not-out _ (and-r _ _ t)))) (and-in _ _ k (not-in _ e))
+      count-strict components _ _ (λ i l t. and-in _ _ (and-l _ _ t)
+      (not-in _ (fails _ (λ z. clash {A = ⊥} (or-r (i == x) (elem i out) z) (not-out _ (and-r _ _ t))))))
+      x (g .systemLimits .component< x k)
+      (fails _ (λ t. clash {A = ⊥} (or-l (x == x) (elem x out) (==-same x)) (not-out _ (and-r _ _ t))))
+      (and-in _ _ k (not-in _ e))
 
   left-some : (out : List ℕ) (x : ℕ) → isSystem Y x ≡ true → elem x out ≡ false → 0 < left out
   left-some out x k e = let h = left-falls out x k e in omega arith
@@ -97,19 +109,23 @@ module _ (b : Book) (g : Good b) (ss : List ℕ) (ks : Lists ss (isSystem (b .sy
   abbrev nextSystem : List ℕ → Option ℕ
   nextSystem out = firstOf (test out) ss
 
-  next-some : (out : List ℕ) (x : ℕ) → nextSystem out ≡ some x → (isSystem Y x ≡ true) × (elem x out ≡ false) × (ready Y out x ≡ true)
-  next-some out x e = let q = first-some (test out) ss x e in (sym (ks .each x) ∙ q .0, not-out _ (and-l _ _ (q .1)), and-r _ _ (q .1))
+  next-some : (out : List ℕ) (x : ℕ) → nextSystem out ≡ some x
+      → (isSystem Y x ≡ true) × (elem x out ≡ false) × (ready Y out x ≡ true)
+  next-some out x e = let q = first-some (test out) ss x e in
+      (sym (ks .each x) ∙ q .0, not-out _ (and-l _ _ (q .1)), and-r _ _ (q .1))
 
   -- without one, every system is out
   next-none : (out : List ℕ) → nextSystem out ≡ none → (s : ℕ) → isSystem Y s ≡ true → elem s out ≡ true
   next-none out e s k =
       elim (bool? (elem s out)) [
         | inl q ↦ q
-        | inr q ↦ (let r = lowest (systemsBelow Y s) out s (le-refl _) k q in clash (r .2) (first-none (test out) ss e (r .0) (ks .each (r .0) ∙ r .1)))
+        | inr q ↦ (let r = lowest (systemsBelow Y s) out s (le-refl _) k q in
+            clash (r .2) (first-none (test out) ss e (r .0) (ks .each (r .0) ∙ r .1)))
       ]
 
   -- all of them are written
-  all-written : (n : ℕ) (out : List ℕ) → left out ≤ n → (s : ℕ) → isSystem Y s ≡ true → elem s out ≡ false → elem s (systemsFrom n Y ss out) ≡ true
+  all-written : (n : ℕ) (out : List ℕ) → left out ≤ n → (s : ℕ) → isSystem Y s ≡ true → elem s out ≡ false
+      → elem s (systemsFrom n Y ss out) ≡ true
   unfolding elem
   all-written zero out h s k e = absurd (let z = left-some out s k e in omega arith)
   all-written (suc n) out h s k e =
@@ -118,7 +134,9 @@ module _ (b : Book) (g : Good b) (ss : List ℕ) (ks : Lists ss (isSystem (b .sy
         | inr q ↦ (let x = q .0 in let r = next-some out x (q .1) in
             ap (elem s) (from-some n Y ss out x (q .1)) ∙ elim (bool? (s == x)) [
               | inl w ↦ or-l _ _ w
-              | inr w ↦ or-r _ _ (all-written n (x ∷ out) (let f = left-falls out x (r .0) (r .1) in omega arith) s k (fails _ (λ t. elim (or-out (s == x) (elem s out) t) [ inl a ↦ clash {A = ⊥} a w | inr a ↦ clash {A = ⊥} a e ])))
+              | inr w ↦ or-r _ _ (all-written n (x ∷ out) (let f = left-falls out x (r .0) (r .1) in omega arith) s k
+                  (fails _ (λ t. elim (or-out (s == x)
+                  (elem s out) t) [ inl a ↦ clash {A = ⊥} a w | inr a ↦ clash {A = ⊥} a e ])))
             ])
       ]
 
@@ -168,7 +186,8 @@ module _ (b : Book) (g : Good b) (ss : List ℕ) (ks : Lists ss (isSystem (b .sy
     out-new : (out : List ℕ) → Out out → (x : ℕ) → isSystem Y x ≡ true → elem x out ≡ false → elem (gc x) (map gc out) ≡ false
     out-new out o x k e = fails _ (λ t.
         let r = elem-map-out gc out (gc x) t in
-        let z : r .0 ≡ x = sym (re .ofC .back (r .0) (spec (r .0) (o .sys (r .0) (r .1)))) ∙ ap fc (r .2) ∙ re .ofC .back x (spec x k) in
+        let z : r .0 ≡ x = sym (re .ofC .back (r .0) (spec (r .0) (o .sys (r .0) (r .1)))) ∙ ap fc (r .2)
+        ∙ re .ofC .back x (spec x k) in
         clash {A = ⊥} (subst (λ (a : ℕ). elem a out ≡ true) z (r .1)) e)
 
     out-more : (out : List ℕ) → Out out → (x : ℕ) → isSystem Y x ≡ true → ready Y out x ≡ true → Out (x ∷ out)
@@ -188,11 +207,13 @@ module _ (b : Book) (g : Good b) (ss : List ℕ) (ks : Lists ss (isSystem (b .sy
           | inl z ↦ subst (Fine gc Can (map gc out)) (sym (from-none n Y ss out z)) none-left
           | inr q ↦ (let x = q .0 in let r = next-some out x (q .1) in let o′ = out-more out o x (r .0) (r .2) in
               subst (Fine gc Can (map gc out)) (sym (from-some n Y ss out x (q .1)))
-              (one-more (record { is = r .0; new = out-new out o x (r .0) (r .1); closed = out-closed (x ∷ out) o′ }) (fine-from n (x ∷ out) o′)))
+              (one-more (record { is = r .0; new = out-new out o x (r .0) (r .1); closed = out-closed (x ∷ out) o′ })
+              (fine-from n (x ∷ out) o′)))
         ]
 
     pub systems-fine : Fine gc Can [] (systemsFrom components Y ss [])
-    systems-fine = fine-from components [] (record { sys = λ n e. clash e (unfold elem in refl); shut = λ s c e u k. clash e (unfold elem in refl) })
+    systems-fine = fine-from components []
+        (record { sys = λ n e. clash e (unfold elem in refl); shut = λ s c e u k. clash e (unfold elem in refl) })
 
     pub systems-all : (s : ℕ) → isSystem Y s ≡ true → elem s (systemsFrom components Y ss []) ≡ true
     unfolding left

@@ -64,11 +64,13 @@ not-gap : (c : ℕ) → alnum c ≡ true → (white c or c == 123) ≡ false
 unfolding white
 not-gap c h =
     let b = alnum-big c h in
-    let e₁ = ==-not c 32 (omega arith) in let e₂ = ==-not c 9 (omega arith) in let e₃ = ==-not c 13 (omega arith) in let e₄ = ==-not c 10 (omega arith) in let e₅ = ==-not c 123 (omega arith) in
+    let e₁ = ==-not c 32 (omega arith) in let e₂ = ==-not c 9 (omega arith) in let e₃ = ==-not c 13 (omega arith) in
+    let e₄ = ==-not c 10 (omega arith) in let e₅ = ==-not c 123 (omega arith) in
     rw (e₁, e₂, e₃, e₄, e₅) (unfold _or_ in refl)
 
 -- a word that stands at the start of a text is the nextToken token
-pub next-word : (c : ℕ) (cs t : Text) → alnum c ≡ true → every nameByte cs ≡ true → stops nameByte t ≡ true → nextToken (c ∷ (cs ++ t)) ≡ token (word (c ∷ cs)) t
+pub next-word : (c : ℕ) (cs t : Text) → alnum c ≡ true → every nameByte cs ≡ true → stops nameByte t ≡ true
+    → nextToken (c ∷ (cs ++ t)) ≡ token (word (c ∷ cs)) t
 unfolding nextToken skip skipped tokenAt if_then_else_
 next-word c cs t a e h =
     rw (not-gap c a, a, run-word nameByte cs t e h, past-word nameByte cs t e h)
@@ -135,7 +137,8 @@ want-equals t = refl
 
 -- ---- readers
 
-pub bind : {A B : Type 0} (p : Reader A) (f : A → Reader B) (t : Text) {a : A} {u : Text} → p t ≡ some (a, u) → _>>=_ p f t ≡ f a u
+pub bind : {A B : Type 0} (p : Reader A) (f : A → Reader B) (t : Text) {a : A} {u : Text} → p t ≡ some (a, u) → _>>=_ p f t
+    ≡ f a u
 unfolding _>>=_ andThen
 bind p f t e = ap (λ (o : Option _). andThen o (λ x. f (x .0) (x .1))) e
 
@@ -151,10 +154,12 @@ length-parted p h [] = omega arith
 length-parted p h (y ∷ []) = omega arith
 length-parted p h (y ∷ (z ∷ zs)) =
     let i = length-parted p h (z ∷ zs) in
-    let e : length (y ++ (p ++ parted p (z ∷ zs))) ≡ length y + (length p + length (parted p (z ∷ zs))) = rw (length-append, length-append) in
+    let e : length (y ++ (p ++ parted p (z ∷ zs)))
+    ≡ length y + (length p + length (parted p (z ∷ zs))) = rw (length-append, length-append) in
     omega arith
 
--- B1Facts law for every list: P writes an element, p reads it back where what follows it is a Stop, and the separator and the tail are.
+-- B1Facts law for every list: P writes an element, p reads it back where what follows it is a Stop, and the separator and the
+-- tail are.
 module _ {A : Type 0} (k : Token) (p : Reader A) (P : A → Text) (sep : Text) (ok : A → Bool) (Stop : Text → Type 0) where
   pub record ListLaw : Type 0 where
     pub one : (x : A) (t : Text) → ok x ≡ true → Stop t → p (32 ∷ (P x ++ t)) ≡ some (x, t)
@@ -163,7 +168,8 @@ module _ {A : Type 0} (k : Token) (p : Reader A) (P : A → Text) (sep : Text) (
     pub wide : 1 ≤ length sep
 
   module _ (law : ListLaw) (tail : Text) (stop : Stop tail) (no-more : ahead k tail ≡ some (false, tail)) where
-    list-in : (xs : List A) → nonEmpty xs ≡ true → every ok xs ≡ true → (n : ℕ) → length xs ≤ n → listIn n k p (32 ∷ (parted sep (map P xs) ++ tail)) ≡ some (xs, tail)
+    list-in : (xs : List A) → nonEmpty xs ≡ true → every ok xs ≡ true → (n : ℕ) → length xs ≤ n
+        → listIn n k p (32 ∷ (parted sep (map P xs) ++ tail)) ≡ some (xs, tail)
     unfolding every listIn parted when give
     list-in [] e o n l = clash e (unfold nonEmpty in refl)
     list-in (x ∷ xs) e o zero l = absurd (omega arith)
@@ -171,12 +177,15 @@ module _ {A : Type 0} (k : Token) (p : Reader A) (P : A → Text) (sep : Text) (
         bind p _ _ (law .one x tail (and-l _ _ o) stop) ∙ bind (ahead k) _ tail no-more ∙ bind _ _ tail refl
     list-in (x ∷ (y ∷ ys)) e o (suc n) l =
         let more = parted sep (map P (y ∷ ys)) in
-        ap (λ (t : Text). listIn (suc n) k p (32 ∷ t)) (append-assoc (P x) (sep ++ more) tail ∙ ap (λ (t : Text). P x ++ t) (append-assoc sep more tail))
+        ap (λ (t : Text). listIn (suc n) k p (32 ∷ t)) (append-assoc (P x) (sep ++ more) tail
+        ∙ ap (λ (t : Text). P x ++ t) (append-assoc sep more tail))
         ∙ bind p _ _ (law .one x (sep ++ (more ++ tail)) (and-l _ _ o) (law .sep-stops (more ++ tail)))
         ∙ bind (ahead k) _ _ (law .on (more ++ tail))
         ∙ bind _ _ _ (list-in (y ∷ ys) (unfold nonEmpty in refl) (and-r _ _ o) n (omega arith))
 
-    pub list-reads : (xs : List A) → nonEmpty xs ≡ true → every ok xs ≡ true → listOf k p (32 ∷ (parted sep (map P xs) ++ tail)) ≡ some (xs, tail)
+    pub list-reads : (xs : List A) → nonEmpty xs ≡ true → every ok xs ≡ true → listOf k p (32 ∷ (parted sep (map P xs) ++ tail))
+        ≡ some (xs, tail)
     unfolding listOf
     list-reads xs e o =
-        list-in xs e o _ (let w = length-parted sep (law .wide) (map P xs) in let a = length-append (parted sep (map P xs)) tail in let m = length-map P xs in omega arith)
+        list-in xs e o _ (let w = length-parted sep (law .wide) (map P xs) in
+        let a = length-append (parted sep (map P xs)) tail in let m = length-map P xs in omega arith)

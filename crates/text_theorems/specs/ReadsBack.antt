@@ -35,7 +35,8 @@ flaggedPiece y = (if y .0 then bytes "std " else []) ++ (y .1 .0 ++ requiring (y
 okFlagged : Flagged → Bool
 okFlagged y = validName (y .1 .0) & every validName (y .1 .1)
 
-requirements-read : (rs : List Name) (t : Text) → every validName rs ≡ true → Tail t → requirements (requiring rs ++ t) ≡ some (rs, t)
+requirements-read : (rs : List Name) (t : Text) → every validName rs ≡ true → Tail t → requirements (requiring rs ++ t)
+    ≡ some (rs, t)
 unfolding requirements requiring when
 requirements-read [] t o h = bind (ahead (key "requires")) _ t (tail-requires t h)
 requirements-read (r ∷ rs) t o h =
@@ -51,17 +52,21 @@ no-std : (v : Name) → validName v ≡ true → isToken (key "std") (word v) �
 unfolding isToken key
 no-std v o = no-keyword (bytes "std") v (unfold lexing among keywords in refl) (valid-name v o)
 
-version-read : (b : Bool) (v : Name) (rs : List Name) (t : Text) → okFlagged (b, (v, rs)) ≡ true → Tail t → specVersion (32 ∷ (flaggedPiece (b, (v, rs)) ++ t)) ≡ some ((b, (v, rs)), t)
+version-read : (b : Bool) (v : Name) (rs : List Name) (t : Text) → okFlagged (b, (v, rs)) ≡ true → Tail t
+    → specVersion (32 ∷ (flaggedPiece (b, (v, rs)) ++ t)) ≡ some ((b, (v, rs)), t)
 unfolding specVersion flaggedPiece okFlagged if_then_else_ give
 version-read true v rs t o h =
     bind (ahead (key "std")) _ _ (ahead-std (v ++ requiring rs) t)
-    ∙ bind name _ _ (ap (λ (l : Text). name (32 ∷ l)) (append-assoc v (requiring rs) t) ∙ name-spaced v (requiring rs ++ t) (and-l _ _ o) (requiring-stops rs t h))
+    ∙ bind name _ _ (ap (λ (l : Text). name (32 ∷ l)) (append-assoc v (requiring rs) t)
+    ∙ name-spaced v (requiring rs ++ t) (and-l _ _ o) (requiring-stops rs t h))
     ∙ bind requirements _ _ (requirements-read rs t (and-r _ _ o) h)
 version-read false v rs t o h =
     bind (ahead (key "std")) _ _ (ahead-no (key "std") _ (word v) (requiring rs ++ t)
-      (next-space _ ∙ ap nextToken (append-assoc v (requiring rs) t) ∙ valid-word v (requiring rs ++ t) (and-l _ _ o) (requiring-stops rs t h))
-      (no-std v (and-l _ _ o)))
-    ∙ bind name _ _ (ap (λ (l : Text). name (32 ∷ l)) (append-assoc v (requiring rs) t) ∙ name-spaced v (requiring rs ++ t) (and-l _ _ o) (requiring-stops rs t h))
+    (next-space _ ∙ ap nextToken (append-assoc v (requiring rs) t)
+    ∙ valid-word v (requiring rs ++ t) (and-l _ _ o) (requiring-stops rs t h))
+    (no-std v (and-l _ _ o)))
+    ∙ bind name _ _ (ap (λ (l : Text). name (32 ∷ l)) (append-assoc v (requiring rs) t)
+    ∙ name-spaced v (requiring rs ++ t) (and-l _ _ o) (requiring-stops rs t h))
     ∙ bind requirements _ _ (requirements-read rs t (and-r _ _ o) h)
 
 version-law : ListLaw semicolon specVersion flaggedPiece (bytes "; ") okFlagged Tail
@@ -78,19 +83,26 @@ flag s x = (same (x .0) s, x)
 unfoldable pub okVersion : Name × List Name → Bool
 okVersion x = validName (x .0) & every validName (x .1)
 
-versions-read : (s : Name) (vs : List (Name × List Name)) (t : Text) → nonEmpty vs ≡ true → every okVersion vs ≡ true → listOf semicolon specVersion (32 ∷ (semicolons (map (specPiece s) vs) ++ (bytes " end\n" ++ t))) ≡ some (map (flag s) vs, bytes " end\n" ++ t)
+versions-read : (s : Name) (vs : List (Name × List Name)) (t : Text) → nonEmpty vs ≡ true → every okVersion vs ≡ true
+    → listOf semicolon specVersion (32 ∷ (semicolons (map (specPiece s) vs) ++ (bytes " end\n" ++ t)))
+    ≡ some (map (flag s) vs, bytes " end\n" ++ t)
 unfolding semicolons specPiece flaggedPiece flag okVersion okFlagged
 versions-read s vs t e o =
-    ap (λ (l : List Text). listOf semicolon specVersion (32 ∷ (parted (bytes "; ") l ++ (bytes " end\n" ++ t)))) (sym (map-map flaggedPiece (flag s) vs))
-    ∙ list-reads semicolon specVersion flaggedPiece (bytes "; ") okFlagged Tail version-law (bytes " end\n" ++ t) (last t) (unfold lexing in refl) (map (flag s) vs) (nonEmpty-map (flag s) vs e)
-      (every-map (flag s) okFlagged vs ∙ o)
+    ap (λ (l : List Text). listOf semicolon specVersion (32 ∷ (parted (bytes "; ") l ++ (bytes " end\n" ++ t))))
+    (sym (map-map flaggedPiece (flag s) vs))
+    ∙ list-reads semicolon specVersion flaggedPiece (bytes "; ") okFlagged Tail version-law (bytes " end\n" ++ t) (last t)
+    (unfold lexing in refl) (map (flag s) vs) (nonEmpty-map (flag s) vs e)
+    (every-map (flag s) okFlagged vs ∙ o)
 
 unflag : (s : Name) (vs : List (Name × List Name)) → map (λ x. x .1) (map (flag s) vs) ≡ vs
 unfolding flag
 unflag s vs = map-map (λ x. x .1) (flag s) vs ∙ map-same vs
 
-spec-reads : (c : Name) (ps : List Name) (vs : List (Name × List Name)) (s : Name) (t : Text) → validName c ≡ true → every validName ps ≡ true → every okVersion vs ≡ true → nonEmpty vs ≡ true → standards (map (flag s) vs) ≡ s ∷ []
-    → add-spec (32 ∷ (c ++ (bytes " provides " ++ (commas ps ++ (bytes "; " ++ (semicolons (map (specPiece s) vs) ++ (bytes " end\n" ++ t))))))) ≡ some (SPEC c ps vs s, 10 ∷ t)
+spec-reads : (c : Name) (ps : List Name) (vs : List (Name × List Name)) (s : Name) (t : Text) → validName c ≡ true
+    → every validName ps ≡ true → every okVersion vs ≡ true → nonEmpty vs ≡ true → standards (map (flag s) vs) ≡ s ∷ []
+    → add-spec (32 ∷ (c ++ (bytes " provides "
+    ++ (commas ps ++ (bytes "; " ++ (semicolons (map (specPiece s) vs) ++ (bytes " end\n" ++ t)))))))
+    ≡ some (SPEC c ps vs s, 10 ∷ t)
 unfolding add-spec theOne give
 spec-reads c ps vs s t oc op ov e d =
     bind name _ _ (name-spaced c _ oc (stop-provides _))
@@ -115,12 +127,14 @@ implementation-reads : (i t : Text) → validImplementation i ≡ true → imp (
 unfolding imp validImplementation quotedOf bytes
 implementation-reads i t o =
     let h : stops implByte (34 ∷ t) ≡ true = unfold lexing in refl in
-    ap quotedOf (string-next i (34 ∷ t) ∙ ap₂ closing (run-word implByte i (34 ∷ t) (and-r _ _ o) h) (past-word implByte i (34 ∷ t) (and-r _ _ o) h) ∙ closing-quote i t (and-l _ _ o))
+    ap quotedOf (string-next i (34 ∷ t) ∙ ap₂ closing (run-word implByte i (34 ∷ t) (and-r _ _ o) h)
+    (past-word implByte i (34 ∷ t) (and-r _ _ o) h) ∙ closing-quote i t (and-l _ _ o))
 
 unfoldable pub okMod : Name × Name → Bool
 okMod x = validName (x .0) & validImplementation (x .1)
 
-mod-shape : (v i t : Text) → (v ++ (bytes " impl \"" ++ (i ++ bytes "\""))) ++ t ≡ v ++ (bytes " impl \"" ++ (i ++ (bytes "\"" ++ t)))
+mod-shape : (v i t : Text) → (v ++ (bytes " impl \"" ++ (i ++ bytes "\""))) ++ t ≡ v
+    ++ (bytes " impl \"" ++ (i ++ (bytes "\"" ++ t)))
 mod-shape v i t = simp append-assoc
 
 mod-read : (x : Name × Name) (t : Text) → okMod x ≡ true → modVersion (32 ∷ (modPiece x ++ t)) ≡ some (x, t)
@@ -145,7 +159,9 @@ unfolding add-mod semicolons give
 mod-reads c is t oc o e =
     bind name _ _ (name-spaced c _ oc (stop-semicolon _))
     ∙ thence (want semicolon) _ _ (want-semicolon _)
-    ∙ bind (listOf semicolon modVersion) _ _ (list-reads semicolon modVersion modPiece (bytes "; ") okMod Tail mod-law (bytes " end\n" ++ t) (last t) (unfold lexing in refl) is e o)
+    ∙ bind (listOf semicolon modVersion) _ _
+    (list-reads semicolon modVersion modPiece (bytes "; ") okMod Tail mod-law (bytes " end\n" ++ t) (last t)
+    (unfold lexing in refl) is e o)
     ∙ thence (want (key "end")) _ _ (want-end t)
 
 -- ---- sys
@@ -160,11 +176,13 @@ ahead-point : (t : Text) → ahead point (bytes "." ++ t) ≡ some (true, t)
 unfolding lexing
 ahead-point t = refl
 
-member-read : (c : Name) (v : Option Name) (t : Text) → okMember (c, v) ≡ true → stops nameByte t ≡ true → compo (32 ∷ (memberPiece (c, v) ++ t)) ≡ some ((c, v), t)
+member-read : (c : Name) (v : Option Name) (t : Text) → okMember (c, v) ≡ true → stops nameByte t ≡ true
+    → compo (32 ∷ (memberPiece (c, v) ++ t)) ≡ some ((c, v), t)
 unfolding compo memberPiece okMember has when give
 member-read c none t o h = clash (and-r _ _ o) refl
 member-read c (some v) t o h =
-    ap (λ (l : Text). compo (32 ∷ l)) (append-assoc c (bytes "." ++ v) t ∙ ap (λ (l : Text). c ++ l) (append-assoc (bytes ".") v t))
+    ap (λ (l : Text). compo (32 ∷ l)) (append-assoc c (bytes "." ++ v) t
+    ∙ ap (λ (l : Text). c ++ l) (append-assoc (bytes ".") v t))
     ∙ bind name _ _ (name-spaced c _ (and-l _ _ o) (stop-point _))
     ∙ bind (ahead point) _ _ (ahead-point (v ++ t))
     ∙ bind _ _ _ (bind name _ _ (name-reads v t (and-r _ _ o) h))
@@ -177,13 +195,16 @@ member-law = record {
   wide = unfold lexing in omega arith;
 }
 
-sysVersion-read : (x : Name × NamedMembers) (t : Text) → okSys x ≡ true → Tail t → sysVersion (32 ∷ (sysPiece x ++ t)) ≡ some (x, t)
+sysVersion-read : (x : Name × NamedMembers) (t : Text) → okSys x ≡ true → Tail t → sysVersion (32 ∷ (sysPiece x ++ t))
+    ≡ some (x, t)
 unfolding sysVersion sysPiece okSys give commas compos
 sysVersion-read x t o h =
-    ap (λ (l : Text). sysVersion (32 ∷ l)) (append-assoc (x .0) _ t ∙ ap (λ (l : Text). x .0 ++ l) (append-assoc (bytes " = ") _ t))
+    ap (λ (l : Text). sysVersion (32 ∷ l)) (append-assoc (x .0) _ t
+    ∙ ap (λ (l : Text). x .0 ++ l) (append-assoc (bytes " = ") _ t))
     ∙ bind name _ _ (name-spaced (x .0) _ (and-l _ _ o) (stop-equals _))
     ∙ thence (want equals) _ _ (want-equals _)
-    ∙ bind (compos) _ _ (list-reads comma compo memberPiece (bytes ", ") okMember _ member-law t (tail-stops t h) (tail-comma t h) (x .1) (and-l _ _ (and-r _ _ o)) (and-r _ _ (and-r _ _ o)))
+    ∙ bind (compos) _ _ (list-reads comma compo memberPiece (bytes ", ") okMember _ member-law t (tail-stops t h)
+    (tail-comma t h) (x .1) (and-l _ _ (and-r _ _ o)) (and-r _ _ (and-r _ _ o)))
 
 sys-law : ListLaw semicolon sysVersion sysPiece (bytes "; ") okSys Tail
 sys-law = record {
@@ -193,15 +214,19 @@ sys-law = record {
   wide = unfold lexing in omega arith;
 }
 
-sys-reads : (c : Name) (us : List Name) (ks : List (Name × NamedMembers)) (t : Text) → validName c ≡ true → every validName us ≡ true → nonEmpty us ≡ true → every okSys ks ≡ true → nonEmpty ks ≡ true
-    → add-sys (32 ∷ (c ++ (bytes " use " ++ (commas us ++ (bytes "; " ++ (semicolons (map sysPiece ks) ++ (bytes " end\n" ++ t))))))) ≡ some (SYS c us ks, 10 ∷ t)
+sys-reads : (c : Name) (us : List Name) (ks : List (Name × NamedMembers)) (t : Text) → validName c ≡ true → every validName us
+    ≡ true → nonEmpty us ≡ true → every okSys ks ≡ true → nonEmpty ks ≡ true
+    → add-sys (32 ∷ (c ++ (bytes " use "
+    ++ (commas us ++ (bytes "; " ++ (semicolons (map sysPiece ks) ++ (bytes " end\n" ++ t))))))) ≡ some (SYS c us ks, 10 ∷ t)
 unfolding add-sys semicolons give
 sys-reads c us ks t oc ou eu o e =
     bind name _ _ (name-spaced c _ oc (stop-use _))
     ∙ thence (want (key "use")) _ _ (want-use _)
     ∙ bind names _ _ (names-read us _ eu ou (stop-semicolon _) (tail-comma _ (semi _)))
     ∙ thence (want semicolon) _ _ (want-semicolon _)
-    ∙ bind (listOf semicolon sysVersion) _ _ (list-reads semicolon sysVersion sysPiece (bytes "; ") okSys Tail sys-law (bytes " end\n" ++ t) (last t) (unfold lexing in refl) ks e o)
+    ∙ bind (listOf semicolon sysVersion) _ _
+    (list-reads semicolon sysVersion sysPiece (bytes "; ") okSys Tail sys-law (bytes " end\n" ++ t) (last t)
+    (unfold lexing in refl) ks e o)
     ∙ thence (want (key "end")) _ _ (want-end t)
 
 -- ---- a command
@@ -209,10 +234,13 @@ sys-reads c us ks t oc ou eu o e =
 -- what can be written and read back
 pub data Writable : Said → Type 0 where
   aSpec : {c : Name} {ps : List Name} {vs : List (Name × List Name)} {s : Name}
-      → validName c ≡ true → every validName ps ≡ true → every okVersion vs ≡ true → nonEmpty vs ≡ true → standards (map (flag s) vs) ≡ s ∷ [] → Writable (SPEC c ps vs s)
-  aMod : {c : Name} {is : List (Name × Name)} → validName c ≡ true → every okMod is ≡ true → nonEmpty is ≡ true → Writable (MOD c is)
+      → validName c ≡ true → every validName ps ≡ true → every okVersion vs ≡ true → nonEmpty vs ≡ true
+      → standards (map (flag s) vs) ≡ s ∷ [] → Writable (SPEC c ps vs s)
+  aMod : {c : Name} {is : List (Name × Name)} → validName c ≡ true → every okMod is ≡ true → nonEmpty is ≡ true
+      → Writable (MOD c is)
   aSys : {c : Name} {us : List Name} {ks : List (Name × NamedMembers)}
-      → validName c ≡ true → every validName us ≡ true → nonEmpty us ≡ true → every okSys ks ≡ true → nonEmpty ks ≡ true → Writable (SYS c us ks)
+      → validName c ≡ true → every validName us ≡ true → nonEmpty us ≡ true → every okSys ks ≡ true → nonEmpty ks ≡ true
+      → Writable (SYS c us ks)
 
 command-spec : (t : Text) → command (bytes "spec " ++ t) ≡ readAs (add-spec (32 ∷ t))
 unfolding lexing command commandOf byWord grammar

@@ -18,9 +18,11 @@ use Rattle.text_theorems.specs.TextLaws.{map-same, same-out}
 -- a name is no keyword
 pub no-keyword : (k w : Text) → among k keywords ≡ true → nameWord w ≡ true → same k w ≡ false
 unfolding nameWord
-no-keyword k w a n = fails _ (λ e. clash (subst (λ (x : Text). among x keywords ≡ true) (same-out k w e) a) (not-out _ (and-r _ _ n)))
+no-keyword k w a n = fails _ (λ e. clash (subst (λ (x : Text). among x keywords ≡ true) (same-out k w e) a)
+    (not-out _ (and-r _ _ n)))
 
-pub ahead-no : (k : Token) (t : Text) (j : Token) (u : Text) → nextToken t ≡ token j u → isToken k j ≡ false → ahead k t ≡ some (false, t)
+pub ahead-no : (k : Token) (t : Text) (j : Token) (u : Text) → nextToken t ≡ token j u → isToken k j ≡ false → ahead k t
+    ≡ some (false, t)
 unfolding ahead aheadOf
 ahead-no k t j u e f = ap (aheadOf k t) e ∙ ap some (if-false _ _ _ f)
 
@@ -88,24 +90,31 @@ name-law : ListLaw comma name (λ w. w) (bytes ", ") validName (λ t. stops name
 unfolding lexing
 name-law = record { one = λ x t v h. name-spaced x t v h; on = λ t. refl; sep-stops = λ t. refl; wide = omega arith }
 
-pub names-read : (xs : List Name) (t : Text) → nonEmpty xs ≡ true → every validName xs ≡ true → stops nameByte t ≡ true → ahead comma t ≡ some (false, t) → names (32 ∷ (commas xs ++ t)) ≡ some (xs, t)
+pub names-read : (xs : List Name) (t : Text) → nonEmpty xs ≡ true → every validName xs ≡ true → stops nameByte t ≡ true
+    → ahead comma t ≡ some (false, t) → names (32 ∷ (commas xs ++ t)) ≡ some (xs, t)
 unfolding names commas
 names-read xs t e o h a =
     ap (λ (l : List Name). listOf comma name (32 ∷ (parted (bytes ", ") l ++ t))) (sym (map-same xs))
     ∙ list-reads comma name (λ w. w) (bytes ", ") validName _ name-law t h a xs e o
 
 -- the nextToken token of names is the first of them
-first-name : (x : Name) (xs : List Name) (t : Text) → validName x ≡ true → stops nameByte t ≡ true → (u : Text) × (nextToken (32 ∷ (commas (x ∷ xs) ++ t)) ≡ token (word x) u)
+first-name : (x : Name) (xs : List Name) (t : Text) → validName x ≡ true → stops nameByte t ≡ true
+    → (u : Text) × (nextToken (32 ∷ (commas (x ∷ xs) ++ t)) ≡ token (word x) u)
 unfolding commas parted
 first-name x [] t v h = (t, next-space _ ∙ valid-word x t v h)
-first-name x (y ∷ ys) t v h =
-    (_, next-space _ ∙ ap nextToken (append-assoc x _ t) ∙ valid-word x ((bytes ", " ++ parted (bytes ", ") (y ∷ ys)) ++ t) v (unfold lexing in refl))
+first-name x (y ∷ ys) t v h = (
+  _,
+  next-space _ ∙ ap nextToken (append-assoc x _ t)
+      ∙ valid-word x ((bytes ", " ++ parted (bytes ", ") (y ∷ ys)) ++ t) v (unfold lexing in refl),
+)
 
-pub upTo-semicolon : (xs : List Name) (t : Text) → every validName xs ≡ true → namesUpTo semicolon (32 ∷ (commas xs ++ (bytes "; " ++ t))) ≡ some (xs, 32 ∷ t)
+pub upTo-semicolon : (xs : List Name) (t : Text) → every validName xs ≡ true
+    → namesUpTo semicolon (32 ∷ (commas xs ++ (bytes "; " ++ t))) ≡ some (xs, 32 ∷ t)
 unfolding namesUpTo every when ~_ give commas parted
 upTo-semicolon [] t o = bind (ahead semicolon) _ _ (ahead-semicolon t)
 upTo-semicolon (x ∷ xs) t o =
     let f = first-name x xs (bytes "; " ++ t) (and-l _ _ o) (unfold lexing in refl) in
     bind (ahead semicolon) _ _ (ahead-no semicolon _ (word x) (f .0) (f .1) (unfold isToken in refl))
-    ∙ bind names _ _ (names-read (x ∷ xs) (bytes "; " ++ t) (unfold nonEmpty in refl) o (unfold lexing in refl) (unfold lexing in refl))
+    ∙ bind names _ _ (names-read (x ∷ xs) (bytes "; " ++ t) (unfold nonEmpty in refl) o (unfold lexing in refl) (unfold lexing in
+    refl))
     ∙ thence (want semicolon) _ _ (want-semicolon t)

@@ -124,10 +124,12 @@ module _ (b : Book) (t : Tables) (g : Good b) (nm : Named (record { book = b; ta
   spec-writable c e = aSpec (nm .component c e)
       (every-of validName (nameAt (t .facs)) (lp c) (λ f k. nm .provided c f (sym (lp-lists b t g nm c .each f) ∙ k)))
       (every-of okVersion _ (lv c) (λ v k. and-in _ _ (nm .version c v (sym (lv-lists b t g nm c .each v) ∙ k))
-        (every-of validName (nameAt (t .facs)) (lq c v) (λ f j. nm .required c v f (sym (lq-lists b t g nm c v .each f) ∙ j)))))
+      (every-of validName (nameAt (t .facs)) (lq c v) (λ f j. nm .required c v f (sym (lq-lists b t g nm c v .each f) ∙ j)))))
       (nonEmpty-map _ (lv c) (lists-nonEmpty (lv c) _ (lv-lists b t g nm c) _ (g .b1 .std-in c e)))
-      (one-mark (nameAt (t .vers)) _ (standard S c) (lv c) (lv-lists b t g nm c .one) (lv-lists b t g nm c .each (standard S c) ∙ g .b1 .std-in c e)
-        (λ n k z. nm .vers-once n (standard S c) (valid-some _ (nm .version c n (sym (lv-lists b t g nm c .each n) ∙ k))) (same-out _ _ z)))
+      (one-mark (nameAt (t .vers)) _ (standard S c) (lv c) (lv-lists b t g nm c .one) (lv-lists b t g nm c .each (standard S c)
+      ∙ g .b1 .std-in c e)
+      (λ n k z. nm .vers-once n (standard S c) (valid-some _ (nm .version c n (sym (lv-lists b t g nm c .each n) ∙ k)))
+      (same-out _ _ z)))
 
   abbrev BS : List ℕ → Book
   BS = bs b g re
@@ -150,13 +152,16 @@ module _ (b : Book) (t : Tables) (g : Good b) (nm : Named (record { book = b; ta
   numberedSpec : Name × List Name → ℕ × List ℕ
   numberedSpec x = (number (U .vers) (x .0), map (number (U .facs)) (x .1))
 
-  spec-numbers : (c : ℕ) → specNumbered U (nameAt (t .comps) c) (facilityNames t (provides S c)) (map (λ v. (nameAt (t .vers) v, facilityNames t (requires S c v))) (lv c)) (nameAt (t .vers) (standard S c)) ≡ specC c
+  spec-numbers : (c : ℕ) → specNumbered U (nameAt (t .comps) c) (facilityNames t (provides S c))
+      (map (λ v. (nameAt (t .vers) v, facilityNames t (requires S c v))) (lv c)) (nameAt (t .vers) (standard S c)) ≡ specC c
   unfolding specNumbered specK facilityNames numbers new numberedSpec
   spec-numbers c =
       let e₁ = map-map (number (U .facs)) (nameAt (t .facs)) (lp c) in
       let e₂ = map-map numberedSpec (λ v. (nameAt (t .vers) v, map (nameAt (t .facs)) (lq c v))) (lv c) in
-      let e₃ = ap {A = ℕ → ℕ × List ℕ} (λ f. map f (lv c)) (λ i v. (number (U .vers) (nameAt (t .vers) v), map-map (number (U .facs)) (nameAt (t .facs)) (lq c v) i)) in
-      λ i. ADD-SPEC (number (U .comps) (nameAt (t .comps) c)) (e₁ i) ((e₂ ∙ e₃) i) (number (U .vers) (nameAt (t .vers) (standard S c)))
+      let e₃ = ap {A = ℕ → ℕ × List ℕ} (λ f. map f (lv c))
+      (λ i v. (number (U .vers) (nameAt (t .vers) v), map-map (number (U .facs)) (nameAt (t .facs)) (lq c v) i)) in
+      λ i. ADD-SPEC (number (U .comps) (nameAt (t .comps) c)) (e₁ i) ((e₂ ∙ e₃) i)
+      (number (U .vers) (nameAt (t .vers) (standard S c)))
 
   spec-step : (l : List ℕ) (c : ℕ) → (specified S c ≡ true) × (elem (gc c) l ≡ false) → Step U gc BS (specOf b t) l c
   unfolding specOf
@@ -174,16 +179,21 @@ module _ (b : Book) (t : Tables) (g : Good b) (nm : Named (record { book = b; ta
   unfolding modOf okMod
   mod-writable c e = aMod (nm .component c (g .b2 .mod-spec c e))
       (every-of okMod _ (li c) (λ v k.
-        let j = sym (li-lists b t g nm c .each v) ∙ k in let q = isSome-out _ j in
-        and-in _ _ (nm .version c v (sym (g .b2 .mod-covers c v e) ∙ j)) (ap (λ (n : ℕ). validImplementation (nameAt (t .impls) n)) (or-at _ (q .0) (q .1)) ∙ nm .implemented c v (q .0) (q .1))))
-      (nonEmpty-map _ (li c) (lists-nonEmpty (li c) _ (li-lists b t g nm c) (standard S c) (g .b2 .mod-covers c (standard S c) e ∙ g .b1 .std-in c (g .b2 .mod-spec c e))))
+      let j = sym (li-lists b t g nm c .each v) ∙ k in let q = isSome-out _ j in
+      and-in _ _ (nm .version c v (sym (g .b2 .mod-covers c v e) ∙ j))
+      (ap (λ (n : ℕ). validImplementation (nameAt (t .impls) n)) (or-at _ (q .0) (q .1))
+      ∙ nm .implemented c v (q .0) (q .1))))
+      (nonEmpty-map _ (li c) (lists-nonEmpty (li c) _ (li-lists b t g nm c) (standard S c) (g .b2 .mod-covers c (standard S c) e
+      ∙ g .b1 .std-in c (g .b2 .mod-spec c e))))
 
   numberedMod : Name × Name → ℕ × ℕ
   numberedMod x = (number (U .vers) (x .0), number (U .impls) (x .1))
 
-  mod-numbers : (c : ℕ) → modNumbered U (nameAt (t .comps) c) (map (λ v. (nameAt (t .vers) v, nameAt (t .impls) (im c v))) (li c)) ≡ modC c
+  mod-numbers : (c : ℕ) → modNumbered U (nameAt (t .comps) c)
+      (map (λ v. (nameAt (t .vers) v, nameAt (t .impls) (im c v))) (li c)) ≡ modC c
   unfolding modNumbered modK new numberedMod
-  mod-numbers c = ap (ADD-MOD (number (U .comps) (nameAt (t .comps) c))) (map-map numberedMod (λ v. (nameAt (t .vers) v, nameAt (t .impls) (im c v))) (li c))
+  mod-numbers c = ap (ADD-MOD (number (U .comps) (nameAt (t .comps) c)))
+      (map-map numberedMod (λ v. (nameAt (t .vers) v, nameAt (t .impls) (im c v))) (li c))
 
   mod-step : (l : List ℕ) (c : ℕ) → (isModule M c ≡ true) × (elem (gc c) l ≡ false) → Step U gc BM (modOf b t) l c
   unfolding modOf
@@ -216,15 +226,19 @@ module _ (b : Book) (t : Tables) (g : Good b) (nm : Named (record { book = b; ta
   sys-writable : (s : ℕ) → isSystem Y s ≡ true → Writable (sysOf b t s)
   unfolding sysOf okSys okMember membersOf has
   sys-writable s e = aSys (nm .component s (g .b2 .sys-spec s e))
-      (every-of validName (nameAt (t .comps)) (lu s) (λ c k. nm .component c (g .b2 .use-spec s c (sym (lu-lists b t g nm s .each c) ∙ k))))
+      (every-of validName (nameAt (t .comps)) (lu s)
+      (λ c k. nm .component c (g .b2 .use-spec s c (sym (lu-lists b t g nm s .each c) ∙ k))))
       (let q = a-usable s e in nonEmpty-map _ (lu s) (lists-nonEmpty (lu s) _ (lu-lists b t g nm s) (q .0) (q .1)))
       (every-of okSys _ (lk s) (λ v k.
-        let j = sym (lk-lists b t g nm s .each v) ∙ k in let a = a-member s v j in
-        and-in _ _ (nm .version s v (sym (g .b2 .sys-covers s v e) ∙ j)) (and-in _ _
-          (nonEmpty-map _ (lm s v) (lists-nonEmpty (lm s v) _ (lm-lists b t g nm s v) (a .0) (a .1)))
-          (every-of okMember _ (lm s v) (λ c w. let q = in-member s v c w in let u = mem-usable S Y (g .systemLimits) (g .b5) s v c (q .0) (q .1) in
-            and-in _ _ (nm .component c (g .b2 .use-spec s c (u .0))) (ap (λ (n : ℕ). validName (nameAt (t .vers) n)) (or-at _ (q .0) (q .1)) ∙ nm .version c (q .0) (u .1)))))))
-      (nonEmpty-map _ (lk s) (lists-nonEmpty (lk s) _ (lk-lists b t g nm s) (standard S s) (g .b2 .sys-covers s (standard S s) e ∙ g .b1 .std-in s (g .b2 .sys-spec s e))))
+      let j = sym (lk-lists b t g nm s .each v) ∙ k in let a = a-member s v j in
+      and-in _ _ (nm .version s v (sym (g .b2 .sys-covers s v e) ∙ j)) (and-in _ _
+      (nonEmpty-map _ (lm s v) (lists-nonEmpty (lm s v) _ (lm-lists b t g nm s v) (a .0) (a .1)))
+      (every-of okMember _ (lm s v) (λ c w. let q = in-member s v c w in
+      let u = mem-usable S Y (g .systemLimits) (g .b5) s v c (q .0) (q .1) in
+      and-in _ _ (nm .component c (g .b2 .use-spec s c (u .0)))
+      (ap (λ (n : ℕ). validName (nameAt (t .vers) n)) (or-at _ (q .0) (q .1)) ∙ nm .version c (q .0) (u .1)))))))
+      (nonEmpty-map _ (lk s) (lists-nonEmpty (lk s) _ (lk-lists b t g nm s) (standard S s) (g .b2 .sys-covers s (standard S s) e
+      ∙ g .b1 .std-in s (g .b2 .sys-spec s e))))
 
   numberedMember : Name × Option Name → ℕ × Option ℕ
   numberedMember m = (number (U .comps) (m .0), optionMap (number (U .vers)) (m .1))
@@ -236,12 +250,14 @@ module _ (b : Book) (t : Tables) (g : Good b) (nm : Named (record { book = b; ta
   unfolding numberedMembers membersOf sysMembers new numberedMember optionMap
   members-numbers s v = map-map numberedMember (λ c. (nameAt (t .comps) c, some (nameAt (t .vers) (mv s v c)))) (lm s v)
 
-  sys-numbers : (s : ℕ) → sysNumbered U (nameAt (t .comps) s) (map (nameAt (t .comps)) (lu s)) (map (λ v. (nameAt (t .vers) v, membersOf b t s v)) (lk s)) ≡ sysC s
+  sys-numbers : (s : ℕ) → sysNumbered U (nameAt (t .comps) s) (map (nameAt (t .comps)) (lu s))
+      (map (λ v. (nameAt (t .vers) v, membersOf b t s v)) (lk s)) ≡ sysC s
   unfolding sysNumbered sysK numbers new numberedSys
   sys-numbers s =
       let e₁ = map-map (number (U .comps)) (nameAt (t .comps)) (lu s) in
       let e₂ = map-map numberedSys (λ v. (nameAt (t .vers) v, membersOf b t s v)) (lk s) in
-      let e₃ = ap {A = ℕ → ℕ × List (ℕ × Option ℕ)} (λ f. map f (lk s)) (λ i v. (number (U .vers) (nameAt (t .vers) v), members-numbers s v i)) in
+      let e₃ = ap {A = ℕ → ℕ × List (ℕ × Option ℕ)} (λ f. map f (lk s))
+      (λ i v. (number (U .vers) (nameAt (t .vers) v), members-numbers s v i)) in
       λ i. ADD-SYS (number (U .comps) (nameAt (t .comps) s)) (e₁ i) ((e₂ ∙ e₃) i)
 
   abbrev CanY : List ℕ → ℕ → Type 0
@@ -281,8 +297,10 @@ module _ (b : Book) (t : Tables) (g : Good b) (nm : Named (record { book = b; ta
   abbrev pub rebuilt : Book
   rebuilt = record { specs = PS; modules = PM; systems = PY }
 
-  back-in : (test : ℕ → Bool) → ((n : ℕ) → test n ≡ true → specified S n ≡ true) → (l : List ℕ) → ((n : ℕ) → test n ≡ true → elem n l ≡ true) → (m : ℕ) → test (fc m) ≡ true → elem m (pushed gc l []) ≡ true
-  back-in test u l h m e = subst (λ (k : ℕ). elem k (pushed gc l []) ≡ true) (re .ofC .forth m (u _ e)) (pushed-in gc l [] (fc m) (h _ e))
+  back-in : (test : ℕ → Bool) → ((n : ℕ) → test n ≡ true → specified S n ≡ true) → (l : List ℕ)
+      → ((n : ℕ) → test n ≡ true → elem n l ≡ true) → (m : ℕ) → test (fc m) ≡ true → elem m (pushed gc l []) ≡ true
+  back-in test u l h m e = subst (λ (k : ℕ). elem k (pushed gc l []) ≡ true) (re .ofC .forth m (u _ e))
+      (pushed-in gc l [] (fc m) (h _ e))
 
   start : BS [] ≡ empty
   unfolding bs
@@ -291,35 +309,44 @@ module _ (b : Book) (t : Tables) (g : Good b) (nm : Named (record { book = b; ta
   specs-done : BS (pushed gc cs []) ≡ BM []
   unfolding bs bm
   specs-done =
-      let e = only-all (pushed gc cs []) PS (λ m k. back-in (specified S) (λ n z. z) cs (λ n z. cs-lists b t g nm .each n ∙ z) m (sym (specified′ b re m) ∙ (unfold specified in k))) in
+      let e = only-all (pushed gc cs []) PS
+      (λ m k. back-in (specified S) (λ n z. z) cs (λ n z. cs-lists b t g nm .each n ∙ z) m (sym (specified′ b re m)
+      ∙ (unfold specified in k))) in
       λ i. record { specs = e i; modules = sym (only-none PM) i; systems = λ c. none }
 
   modules-done : BM (pushed gc ms []) ≡ BY []
   unfolding bm by
   modules-done =
-      let e = only-all (pushed gc ms []) PM (λ m k. back-in (isModule M) (λ n z. g .b2 .mod-spec n z) ms (λ n z. ms-lists b t g nm .each n ∙ z) m (sym (isModule′ b re m) ∙ (unfold isModule in k))) in
+      let e = only-all (pushed gc ms []) PM
+      (λ m k. back-in (isModule M) (λ n z. g .b2 .mod-spec n z) ms (λ n z. ms-lists b t g nm .each n ∙ z) m
+      (sym (isModule′ b re m) ∙ (unfold isModule in k))) in
       λ i. record { specs = PS; modules = e i; systems = sym (only-none PY) i }
 
   systems-done : BY (pushed gc ss []) ≡ rebuilt
   unfolding by
   systems-done =
       let e = only-all (pushed gc ss []) PY (λ m k. back-in (isSystem Y) (λ n z. g .b2 .sys-spec n z) ss
-            (λ n z. systems-all b g (byName (t .comps) components (isSystem Y)) (ys-lists b t g nm) re n z) m (sym (isSystem′ b re m) ∙ (unfold isSystem in k))) in
+      (λ n z. systems-all b g (byName (t .comps) components (isSystem Y)) (ys-lists b t g nm) re n z) m
+      (sym (isSystem′ b re m) ∙ (unfold isSystem in k))) in
       λ i. record { specs = PS; modules = PM; systems = e i }
 
   specs-plan : Plan U empty (map (specOf b t) cs) (BM [])
-  specs-plan = subst (λ (x : Book). Plan U x (map (specOf b t) cs) (BM [])) start (subst (Plan U (BS []) (map (specOf b t) cs)) specs-done
-      (phase U gc BS (specOf b t) _ spec-step (list-fine fc gc components (UsedC S) (re .ofC) (specified S) (λ n e. e) cs [] (cs-lists b t g nm .one)
-        (λ n e. (sym (cs-lists b t g nm .each n) ∙ e, (unfold elem in refl))))))
+  specs-plan = subst (λ (x : Book). Plan U x (map (specOf b t) cs) (BM [])) start
+      (subst (Plan U (BS []) (map (specOf b t) cs)) specs-done
+      (phase U gc BS (specOf b t) _ spec-step
+      (list-fine fc gc components (UsedC S) (re .ofC) (specified S) (λ n e. e) cs [] (cs-lists b t g nm .one)
+      (λ n e. (sym (cs-lists b t g nm .each n) ∙ e, (unfold elem in refl))))))
 
   modules-plan : Plan U (BM []) (map (modOf b t) ms) (BY [])
   modules-plan = subst (Plan U (BM []) (map (modOf b t) ms)) modules-done
-      (phase U gc BM (modOf b t) _ mod-step (list-fine fc gc components (UsedC S) (re .ofC) (isModule M) (λ n e. g .b2 .mod-spec n e) ms [] (ms-lists b t g nm .one)
-        (λ n e. (sym (ms-lists b t g nm .each n) ∙ e, (unfold elem in refl)))))
+      (phase U gc BM (modOf b t) _ mod-step
+      (list-fine fc gc components (UsedC S) (re .ofC) (isModule M) (λ n e. g .b2 .mod-spec n e) ms [] (ms-lists b t g nm .one)
+      (λ n e. (sym (ms-lists b t g nm .each n) ∙ e, (unfold elem in refl)))))
 
   systems-plan : Plan U (BY []) (map (sysOf b t) ss) rebuilt
   systems-plan = subst (Plan U (BY []) (map (sysOf b t) ss)) systems-done
-      (phase U gc BY (sysOf b t) CanY sys-step (systems-fine b g (byName (t .comps) components (isSystem Y)) (ys-lists b t g nm) re))
+      (phase U gc BY (sysOf b t) CanY sys-step
+      (systems-fine b g (byName (t .comps) components (isSystem Y)) (ys-lists b t g nm) re))
 
   whole-plan : Plan U empty (asCommands b t) rebuilt
   unfolding asCommands systemsInOrder

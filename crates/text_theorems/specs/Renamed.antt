@@ -32,7 +32,8 @@ module _ (f g : ℕ → ℕ) (L : ℕ) (Use : ℕ → Type 0) (R : Renaming f g 
   pub any-through : ((n : ℕ) → Q n ≡ true → Use n × (n < L)) → any L (λ m. Q (f m)) ≡ any L Q
   any-through h = iff→≡ _ _
       (λ t. let q = any-out _ _ t in any-in L Q (f (q .0)) (h (f (q .0)) (q .2) .1) (q .2))
-      (λ t. let q = any-out _ _ t in let u = h (q .0) (q .2) .0 in any-in L (λ m. Q (f m)) (g (q .0)) (R .small (q .0) u) (ap Q (R .back (q .0) u) ∙ q .2))
+      (λ t. let q = any-out _ _ t in let u = h (q .0) (q .2) .0 in
+      any-in L (λ m. Q (f m)) (g (q .0)) (R .small (q .0) u) (ap Q (R .back (q .0) u) ∙ q .2))
 
   pub all-through : ((n : ℕ) → Q n ≡ false → Use n × (n < L)) → all L (λ m. Q (f m)) ≡ all L Q
   all-through h = iff→≡ _ _
@@ -59,8 +60,8 @@ pub data UsedF (S : Specs) (f : ℕ) : Type 0 where
 pub data UsedI (M : Modules) (i : ℕ) : Type 0 where
   implementationOf : (c v : ℕ) → implementation M c v ≡ some i → UsedI M i
 
--- New numbers for a book: of its components, versions, facilities and implementations. Each of the functions f is from new to old numbers, and
--- each g from old to new.
+-- New numbers for a book: of its components, versions, facilities and implementations. Each of the functions f is from new to old
+-- numbers, and each g from old to new.
 pub record Renumbering (S : Specs) (M : Modules) : Type 0 where
   pub fc : ℕ → ℕ
   pub gc : ℕ → ℕ
@@ -83,7 +84,8 @@ pub record Like (S S₁ : Specs) (M : Modules) (Y Y₁ : Systems) (re : Renumber
   pub sys : (s : ℕ) → isSystem Y₁ s ≡ true → isSystem Y (re .fc s) ≡ true
   pub uses : (s c : ℕ) → isSystem Y₁ s ≡ true → usable Y₁ s c ≡ usable Y (re .fc s) (re .fc c)
   pub comps : (s v : ℕ) → isSystem Y₁ s ≡ true → composed Y₁ s v ≡ composed Y (re .fc s) (re .fv v)
-  pub members : (s v c : ℕ) → isSystem Y₁ s ≡ true → member Y₁ s v c ≡ optionMap (re .gv) (member Y (re .fc s) (re .fv v) (re .fc c))
+  pub members : (s v c : ℕ) → isSystem Y₁ s ≡ true → member Y₁ s v c
+      ≡ optionMap (re .gv) (member Y (re .fc s) (re .fv v) (re .fc c))
   pub kind : (s c : ℕ) → isSystem Y₁ s ≡ true → usable Y (re .fc s) (re .fc c) ≡ true → isSystem Y₁ c ≡ isSystem Y (re .fc c)
 
 module _ (b : Book) (g : Good b) (S₁ : Specs) (Y₁ : Systems) (re : Renumbering (b .specs) (b .modules))
@@ -139,7 +141,8 @@ module _ (b : Book) (g : Good b) (S₁ : Specs) (Y₁ : Systems) (re : Renumberi
   member-back s v c w e = re .ofV .back w (versionOf c (mem-usable S Y (g .systemLimits) (g .b5) s v c w e .1))
 
   -- the same, of a test at a member's version
-  has-member : (s v c : ℕ) → isSystem Y₁ s ≡ true → (t₁ t : ℕ → Bool) → ((w : ℕ) → member Y (fc s) (fv v) (fc c) ≡ some w → t₁ (gv w) ≡ t w)
+  has-member : (s v c : ℕ) → isSystem Y₁ s ≡ true → (t₁ t : ℕ → Bool)
+      → ((w : ℕ) → member Y (fc s) (fv v) (fc c) ≡ some w → t₁ (gv w) ≡ t w)
       → has (member Y₁ s v c) t₁ ≡ has (member Y (fc s) (fv v) (fc c)) t
   has-member s v c y t₁ t h = ap (λ (o : Option ℕ). has o t₁) (K .members s v c y) ∙ has-map gv _ t₁ ∙ has-cong _ h
 
@@ -148,8 +151,10 @@ module _ (b : Book) (g : Good b) (S₁ : Specs) (Y₁ : Systems) (re : Renumberi
   needs-like zero c w f k = K .req c w f
   needs-like (suc n) c w f k =
       if-cong (isSystem Y₁ c) (isSystem Y (fc c)) k
-      (λ y. any-cong components (λ d. has-member c w d y _ _ (λ x e. needs-like n d (gv x) f (K .kind c d y (mem-usable S Y (g .systemLimits) (g .b5) (fc c) (fv w) (fc d) x e .0)) ∙ ap (λ (z : ℕ). needsTo n S Y (fc d) z (ff f)) (member-back (fc c) (fv w) (fc d) x e)))
-        ∙ anyC (λ d. has (member Y (fc c) (fv w) d) (λ x. needsTo n S Y d x (ff f))) (λ d t. has-spec (fc c) (fv w) d _ t))
+      (λ y. any-cong components (λ d. has-member c w d y _ _
+      (λ x e. needs-like n d (gv x) f (K .kind c d y (mem-usable S Y (g .systemLimits) (g .b5) (fc c) (fv w) (fc d) x e .0))
+      ∙ ap (λ (z : ℕ). needsTo n S Y (fc d) z (ff f)) (member-back (fc c) (fv w) (fc d) x e)))
+      ∙ anyC (λ d. has (member Y (fc c) (fv w) d) (λ x. needsTo n S Y d x (ff f))) (λ d t. has-spec (fc c) (fv w) d _ t))
       (K .req c w f)
 
   is-system : (s v : ℕ) → composed Y₁ s v ≡ true → isSystem Y₁ s ≡ true
@@ -158,7 +163,10 @@ module _ (b : Book) (g : Good b) (S₁ : Specs) (Y₁ : Systems) (re : Renumberi
   r-like : (s v f : ℕ) → isSystem Y₁ s ≡ true → r S₁ Y₁ s v f ≡ r S Y (fc s) (fv v) (ff f)
   unfolding r needs
   r-like s v f y =
-      any-cong components (λ c. has-member s v c y _ _ (λ x e. needs-like components c (gv x) f (K .kind s c y (mem-usable S Y (g .systemLimits) (g .b5) (fc s) (fv v) (fc c) x e .0)) ∙ ap (λ (z : ℕ). needsTo components S Y (fc c) z (ff f)) (member-back (fc s) (fv v) (fc c) x e)))
+      any-cong components (λ c. has-member s v c y _ _
+      (λ x e. needs-like components c (gv x) f
+      (K .kind s c y (mem-usable S Y (g .systemLimits) (g .b5) (fc s) (fv v) (fc c) x e .0))
+      ∙ ap (λ (z : ℕ). needsTo components S Y (fc c) z (ff f)) (member-back (fc s) (fv v) (fc c) x e)))
       ∙ anyC (λ c. has (member Y (fc s) (fv v) c) (λ w. needsTo components S Y c w (ff f))) (λ c t. has-spec (fc s) (fv v) c _ t)
 
   is-like : (s v c : ℕ) → isSystem Y₁ s ≡ true → isMember Y₁ s v c ≡ isMember Y (fc s) (fv v) (fc c)
@@ -189,7 +197,8 @@ module _ (b : Book) (g : Good b) (S₁ : Specs) (Y₁ : Systems) (re : Renumberi
       ∙ system-out Y _ (g .systemLimits) (g .b3) (fc s) (K .sys s y))
 
   -- a rule of compositions
-  each-like : (test test₁ : ℕ → ℕ → Bool) → ((s v : ℕ) → isSystem Y₁ s ≡ true → test₁ s v ≡ test (fc s) (fv v)) → eachComposition Y test ≡ true → eachComposition Y₁ test₁ ≡ true
+  each-like : (test test₁ : ℕ → ℕ → Bool) → ((s v : ℕ) → isSystem Y₁ s ≡ true → test₁ s v ≡ test (fc s) (fv v))
+      → eachComposition Y test ≡ true → eachComposition Y₁ test₁ ≡ true
   each-like test test₁ h b = composition-in Y₁ test₁ (λ s v k.
       let y = is-system s v k in h s v y ∙ composition-out Y test (g .systemLimits) b (fc s) (fv v) (sym (K .comps s v y) ∙ k))
 
@@ -197,12 +206,16 @@ module _ (b : Book) (g : Good b) (S₁ : Specs) (Y₁ : Systems) (re : Renumberi
   unfolding B5 B5at
   B5-like = each-like _ _ (λ s v y.
       ap₂ _&_ (any-cong components (λ c. is-like s v c y) ∙ anyC (isMember Y (fc s) (fv v)) (λ c t. is-spec (fc s) (fv v) c t))
-      (all-cong components (λ c. ap (λ (o : Option ℕ). if-there o (λ w. usable Y₁ s c & hasVersion S₁ c w)) (K .members s v c y) ∙ if-there-map gv _ _
-        ∙ if-there-cong (member Y (fc s) (fv v) (fc c)) (λ w e. ap₂ _&_ (K .uses s c y) (K .vers c (gv w) ∙ ap (hasVersion S (fc c)) (member-back (fc s) (fv v) (fc c) w e))))
-        ∙ allC (λ c. if-there (member Y (fc s) (fv v) c) (λ w. usable Y (fc s) c & hasVersion S c w)) (λ c t. (let q = there-no _ _ t in member-spec (fc s) (fv v) c (q .0) (q .1))))) (g .b5)
+      (all-cong components (λ c. ap (λ (o : Option ℕ). if-there o (λ w. usable Y₁ s c & hasVersion S₁ c w)) (K .members s v c y)
+      ∙ if-there-map gv _ _
+      ∙ if-there-cong (member Y (fc s) (fv v) (fc c))
+      (λ w e. ap₂ _&_ (K .uses s c y) (K .vers c (gv w) ∙ ap (hasVersion S (fc c)) (member-back (fc s) (fv v) (fc c) w e))))
+      ∙ allC (λ c. if-there (member Y (fc s) (fv v) c) (λ w. usable Y (fc s) c & hasVersion S c w))
+      (λ c t. (let q = there-no _ _ t in member-spec (fc s) (fv v) c (q .0) (q .1))))) (g .b5)
 
   eq-like : (c d : ℕ) → specified S (fc c) ≡ true → specified S (fc d) ≡ true → (c == d) ≡ (fc c == fc d)
-  eq-like c d hc hd = iff→≡ _ _ (λ e. ==-in _ _ (ap fc (==-out _ _ e))) (λ e. ==-in _ _ (sym (re .ofC .forth c hc) ∙ ap gc (==-out _ _ e) ∙ re .ofC .forth d hd))
+  eq-like c d hc hd = iff→≡ _ _ (λ e. ==-in _ _ (ap fc (==-out _ _ e)))
+      (λ e. ==-in _ _ (sym (re .ofC .forth c hc) ∙ ap gc (==-out _ _ e) ∙ re .ofC .forth d hd))
 
   -- a test of each member
   member-like : (s v : ℕ) → isSystem Y₁ s ≡ true → (t₁ t : ℕ → Bool) → ((c : ℕ) → specified S (fc c) ≡ true → t₁ c ≡ t (fc c))
@@ -212,7 +225,8 @@ module _ (b : Book) (g : Good b) (S₁ : Specs) (Y₁ : Systems) (re : Renumberi
       ∙ allC (λ c. isMember Y (fc s) (fv v) c ⇒ t c) (λ c e. is-spec (fc s) (fv v) c (imp-no _ _ e .0))
 
   -- a facility that both provide
-  apart-like : (c d : ℕ) → disjoint facilities (provides S₁ c) (provides S₁ d) ≡ disjoint facilities (provides S (fc c)) (provides S (fc d))
+  apart-like : (c d : ℕ) → disjoint facilities (provides S₁ c) (provides S₁ d)
+      ≡ disjoint facilities (provides S (fc c)) (provides S (fc d))
   unfolding disjoint
   apart-like c d =
       all-cong facilities (λ f. ap₂ (λ (x y : Bool). x ⇒ ~ y) (K .prov c f) (K .prov d f))
@@ -221,7 +235,8 @@ module _ (b : Book) (g : Good b) (S₁ : Specs) (Y₁ : Systems) (re : Renumberi
   pub B6-like : B6 S₁ Y₁ ≡ true
   unfolding B6 B6at
   B6-like = each-like _ _ (λ s v y.
-      member-like s v y _ (λ c. all components (λ d. isMember Y (fc s) (fv v) d ⇒ ~ (c == d) ⇒ disjoint facilities (provides S c) (provides S d)))
+      member-like s v y _ (λ c. all components
+      (λ d. isMember Y (fc s) (fv v) d ⇒ ~ (c == d) ⇒ disjoint facilities (provides S c) (provides S d)))
       (λ c hc. member-like s v y _ (λ d. ~ (fc c == d) ⇒ disjoint facilities (provides S (fc c)) (provides S d)) (λ d hd.
       ap₂ (λ (e x : Bool). ~ e ⇒ x) (eq-like c d hc hd) (apart-like c d)))) (g .b6)
 
@@ -230,7 +245,8 @@ module _ (b : Book) (g : Good b) (S₁ : Specs) (Y₁ : Systems) (re : Renumberi
   B7-like = each-like _ _ (λ s v y.
       member-like s v y _ (λ c. any facilities (λ f. provides S c f & (r S Y (fc s) (fv v) f or provides S (fc s) f))) (λ c hc.
       any-cong facilities (λ f. ap₂ _&_ (K .prov c f) (ap₂ _or_ (r-like s v f y) (K .prov s f)))
-      ∙ anyF (λ f. provides S (fc c) f & (r S Y (fc s) (fv v) f or provides S (fc s) f)) (λ f e. providedBy (fc c) (and-l _ _ e)))) (g .b7)
+      ∙ anyF (λ f. provides S (fc c) f & (r S Y (fc s) (fv v) f or provides S (fc s) f))
+      (λ f e. providedBy (fc c) (and-l _ _ e)))) (g .b7)
 
   pub B8-like : B8 S₁ Y₁ ≡ true
   unfolding B8 B8at subset
@@ -245,7 +261,8 @@ module _ (b : Book) (g : Good b) (S₁ : Specs) (Y₁ : Systems) (re : Renumberi
   pub B9-like : B9 S₁ Y₁ ≡ true
   unfolding B9 B9at disjoint minus
   B9-like = each-like _ _ (λ s v y.
-      all-cong facilities (λ f. ap₂ (λ (x z : Bool). x ⇒ ~ z) (ap₂ (λ (x z : Bool). x & ~ z) (r-like s v f y) (p-like s v f y)) (offered-like s f y))
+      all-cong facilities (λ f. ap₂ (λ (x z : Bool). x ⇒ ~ z) (ap₂ (λ (x z : Bool). x & ~ z) (r-like s v f y) (p-like s v f y))
+      (offered-like s f y))
       ∙ allF (λ f. (r S Y (fc s) (fv v) f & ~ p S Y (fc s) (fv v) f) ⇒ ~ (offered S Y (fc s) f))
       (λ f e. offered-used (fc s) f (not-no _ (imp-no _ _ e .1)))) (g .b9)
 
@@ -255,10 +272,14 @@ module _ (b : Book) (g : Good b) (S₁ : Specs) (Y₁ : Systems) (re : Renumberi
   reaches-like (suc n) s c t =
       elim (or-out _ _ t) [
         | inl u ↦ or-l _ _ (sym (K .uses s c (usable-system Y₁ s c u)) ∙ u)
-        | inr a ↦ (let q = any-out _ _ a in let u = and-l _ _ (q .2) in let k = sym (K .uses s (q .0) (usable-system Y₁ s (q .0) u)) ∙ u in
-            or-r _ _ (any-in _ _ (fc (q .0)) (g .systemLimits .usable< (fc s) (fc (q .0)) k) (and-in _ _ k (reaches-like n (q .0) c (and-r _ _ (q .2))))))
+        | inr a ↦ (let q = any-out _ _ a in let u = and-l _ _ (q .2) in
+            let k = sym (K .uses s (q .0) (usable-system Y₁ s (q .0) u)) ∙ u in
+            or-r _ _ (any-in _ _ (fc (q .0)) (g .systemLimits .usable< (fc s) (fc (q .0)) k)
+            (and-in _ _ k (reaches-like n (q .0) c (and-r _ _ (q .2))))))
       ]
 
   pub B4-like : B4 Y₁ ≡ true
   unfolding B4 reaches
-  B4-like = system-in Y₁ _ (λ s y. not-in _ (fails _ (λ t. clash (reaches-like components s s t) (not-out _ (system-out Y _ (g .systemLimits) (g .b4) (fc s) (K .sys s y))))))
+  B4-like = system-in Y₁ _ (λ s y. not-in _
+      (fails _ (λ t. clash (reaches-like components s s t)
+      (not-out _ (system-out Y _ (g .systemLimits) (g .b4) (fc s) (K .sys s y))))))

@@ -49,10 +49,19 @@ only-none m = fun-ext (λ n. if-false _ _ _ refl)
 -- ---- a book under other numbers
 
 unfoldable pub pullSpec : (fv ff gv : ℕ → ℕ) → Spec → Spec
-pullSpec fv ff gv x = record { prov = λ f. x .prov (ff f); req = λ v. optionMap (λ q f. q (ff f)) (x .req (fv v)); std = gv (x .std) }
+pullSpec fv ff gv x = record {
+  prov = λ f. x .prov (ff f);
+  req = λ v. optionMap (λ q f. q (ff f)) (x .req (fv v));
+  std = gv
+      (x .std);
+}
 
 unfoldable pub pullSystem : (fc fv gv : ℕ → ℕ) → System → System
-pullSystem fc fv gv y = record { uses = λ c. y .uses (fc c); comp = λ v. optionMap (λ m c. optionMap gv (m (fc c))) (y .comp (fv v)) }
+pullSystem fc fv gv y = record {
+  uses = λ c. y .uses (fc c);
+  comp = λ v. optionMap (λ m c. optionMap gv (m (fc c)))
+      (y .comp (fv v));
+}
 
 unfoldable pub pullModule : (fv gi : ℕ → ℕ) → Map ℕ → Map ℕ
 pullModule fv gi i v = optionMap gi (i (fv v))
@@ -102,7 +111,8 @@ module _ (b : Book) (re : Renumbering (b .specs) (b .modules)) where
   unfolding provides newSpecs pullSpec
   provides′ c f = has-map _ (S (fc c)) _
 
-  version-by : (o : Option Spec) (v : ℕ) → isSome (andThen (optionMap (pullSpec fv ff gv) o) (λ x. x .req v)) ≡ isSome (andThen o (λ x. x .req (fv v)))
+  version-by : (o : Option Spec) (v : ℕ) → isSome (andThen (optionMap (pullSpec fv ff gv) o) (λ x. x .req v))
+      ≡ isSome (andThen o (λ x. x .req (fv v)))
   unfolding andThen optionMap pullSpec
   version-by none v = refl
   version-by (some x) v = optionMap-some _ _
@@ -111,7 +121,8 @@ module _ (b : Book) (re : Renumbering (b .specs) (b .modules)) where
   unfolding hasVersion required newSpecs
   hasVersion′ c v = version-by (S (fc c)) v
 
-  requires-by : (o : Option Spec) (v f : ℕ) → has (andThen (optionMap (pullSpec fv ff gv) o) (λ x. x .req v)) (λ q. q f) ≡ has (andThen o (λ x. x .req (fv v))) (λ q. q (ff f))
+  requires-by : (o : Option Spec) (v f : ℕ) → has (andThen (optionMap (pullSpec fv ff gv) o) (λ x. x .req v)) (λ q. q f)
+      ≡ has (andThen o (λ x. x .req (fv v))) (λ q. q (ff f))
   unfolding andThen optionMap pullSpec has
   requires-by none v f = refl
   requires-by (some x) v f = has-map _ (x .req (fv v)) _
@@ -124,7 +135,8 @@ module _ (b : Book) (re : Renumbering (b .specs) (b .modules)) where
   unfolding isModule newModules
   isModule′ c = optionMap-some _ _
 
-  implementation-by : (o : Option (Map ℕ)) (v : ℕ) → andThen (optionMap (pullModule fv gi) o) (λ i. i v) ≡ optionMap gi (andThen o (λ i. i (fv v)))
+  implementation-by : (o : Option (Map ℕ)) (v : ℕ) → andThen (optionMap (pullModule fv gi) o) (λ i. i v)
+      ≡ optionMap gi (andThen o (λ i. i (fv v)))
   unfolding andThen optionMap pullModule
   implementation-by none v = refl
   implementation-by (some x) v = refl
@@ -141,7 +153,8 @@ module _ (b : Book) (re : Renumbering (b .specs) (b .modules)) where
   unfolding usable newSystems pullSystem
   usable′ s c = has-map _ (Y (fc s)) _
 
-  composed-by : (o : Option System) (v : ℕ) → isSome (andThen (optionMap (pullSystem fc fv gv) o) (λ y. y .comp v)) ≡ isSome (andThen o (λ y. y .comp (fv v)))
+  composed-by : (o : Option System) (v : ℕ) → isSome (andThen (optionMap (pullSystem fc fv gv) o) (λ y. y .comp v))
+      ≡ isSome (andThen o (λ y. y .comp (fv v)))
   unfolding andThen optionMap pullSystem
   composed-by none v = refl
   composed-by (some y) v = optionMap-some _ _
@@ -150,12 +163,14 @@ module _ (b : Book) (re : Renumbering (b .specs) (b .modules)) where
   unfolding composed composition newSystems
   composed′ s v = composed-by (Y (fc s)) v
 
-  member-by′ : (o : Option (Map ℕ)) (c : ℕ) → andThen (optionMap {B = Map ℕ} (λ m c. optionMap gv (m (fc c))) o) (λ m. m c) ≡ optionMap gv (andThen o (λ m. m (fc c)))
+  member-by′ : (o : Option (Map ℕ)) (c : ℕ) → andThen (optionMap {B = Map ℕ} (λ m c. optionMap gv (m (fc c))) o) (λ m. m c)
+      ≡ optionMap gv (andThen o (λ m. m (fc c)))
   unfolding andThen optionMap
   member-by′ none c = refl
   member-by′ (some m) c = refl
 
-  member-by : (o : Option System) (v c : ℕ) → andThen (andThen (optionMap (pullSystem fc fv gv) o) (λ y. y .comp v)) (λ m. m c) ≡ optionMap gv (andThen (andThen o (λ y. y .comp (fv v))) (λ m. m (fc c)))
+  member-by : (o : Option System) (v c : ℕ) → andThen (andThen (optionMap (pullSystem fc fv gv) o) (λ y. y .comp v)) (λ m. m c)
+      ≡ optionMap gv (andThen (andThen o (λ y. y .comp (fv v))) (λ m. m (fc c)))
   unfolding andThen optionMap pullSystem
   member-by none v c = refl
   member-by (some y) v c = member-by′ (y .comp (fv v)) c

@@ -49,7 +49,9 @@ module _ (b : Book) (t : Tables) (g : Good b) (nm : Named (record { book = b; ta
   at-out : (x : Table) (w : Name) (P : ℕ → Bool) → has (place x w) P ≡ true → (n : ℕ) × (P n ≡ true)
   at-out x w P e = let q = has-out _ _ e in (q .0, q .2)
 
-  standard-by : (o : Option Spec) → isSome o ≡ true → orElse (optionMap (λ (x : Spec). x .std) (optionMap (pullSpec (re .fv) (re .ff) (re .gv)) o)) 0 ≡ re .gv (orElse (optionMap (λ (x : Spec). x .std) o) 0)
+  standard-by : (o : Option Spec) → isSome o ≡ true
+      → orElse (optionMap (λ (x : Spec). x .std) (optionMap (pullSpec (re .fv) (re .ff) (re .gv)) o)) 0
+      ≡ re .gv (orElse (optionMap (λ (x : Spec). x .std) o) 0)
   unfolding isSome optionMap orElse pullSpec
   standard-by none e = clash e refl
   standard-by (some x) e = refl
@@ -72,31 +74,47 @@ module _ (b : Book) (t : Tables) (g : Good b) (nm : Named (record { book = b; ta
   same-facts (IsSpecified c) = atC b t g nm c _ _ (specified′ b re) (λ n e. e)
   same-facts (IsModule c) = atC b t g nm c _ _ (isModule′ b re) (λ n e. g .b2 .mod-spec n e)
   same-facts (IsSystem c) = atC b t g nm c _ _ (isSystem′ b re) (λ n e. g .b2 .sys-spec n e)
-  same-facts (Provides c f) = atC b t g nm c _ _ (λ m. atF b t g nm f _ _ (provides′ b re m) (λ n e. providedBy _ e)) (λ n e. let q = at-out _ f _ e in provides-specified S n (q .0) (q .1))
-  same-facts (Version c v) = atC b t g nm c _ _ (λ m. atV b t g nm v _ _ (hasVersion′ b re m) (λ n e. versionOf _ e)) (λ n e. let q = at-out _ v _ e in version-specified S n (q .0) (q .1))
+  same-facts (Provides c f) = atC b t g nm c _ _ (λ m. atF b t g nm f _ _ (provides′ b re m) (λ n e. providedBy _ e))
+      (λ n e. let q = at-out _ f _ e in provides-specified S n (q .0) (q .1))
+  same-facts (Version c v) = atC b t g nm c _ _ (λ m. atV b t g nm v _ _ (hasVersion′ b re m) (λ n e. versionOf _ e))
+      (λ n e. let q = at-out _ v _ e in version-specified S n (q .0) (q .1))
   same-facts (Standard c v) = atC b t g nm c _ _ (λ m. atV b t g nm v _ _
-      (λ k. ap (λ (x : Bool). x & k == standard (newSpecs b re) m) (specified′ b re m) ∙ and-cong _ (λ e. ap (λ (x : ℕ). k == x) (standard′ m e) ∙ eq-through _ _ _ _ (re .ofV) k _ (versionOf _ (g .b1 .std-in _ e))))
+      (λ k. ap (λ (x : Bool). x & k == standard (newSpecs b re) m) (specified′ b re m)
+      ∙ and-cong _ (λ e. ap (λ (x : ℕ). k == x) (standard′ m e)
+      ∙ eq-through _ _ _ _ (re .ofV) k _ (versionOf _ (g .b1 .std-in _ e))))
       (λ n e. versionOf (re .fc m) (ap (hasVersion S (re .fc m)) (==-out _ _ (and-r _ _ e)) ∙ g .b1 .std-in _ (and-l _ _ e))))
       (λ n e. let q = at-out _ v _ e in and-l _ _ (q .1))
-  same-facts (Usable c d) = atC b t g nm c _ _ (λ m. atC b t g nm d _ _ (usable′ b re m) (λ n e. g .b2 .use-spec _ n e)) (λ n e. let q = at-out _ d _ e in g .b2 .sys-spec n (usable-system Y n (q .0) (q .1)))
-  same-facts (Composed c v) = atC b t g nm c _ _ (λ m. atV b t g nm v _ _ (composed′ b re m) (λ n e. versionOf _ (sym (g .b2 .sys-covers _ n (sys-of _ n e)) ∙ e))) (λ n e. let q = at-out _ v _ e in g .b2 .sys-spec n (sys-of n (q .0) (q .1)))
+  same-facts (Usable c d) = atC b t g nm c _ _ (λ m. atC b t g nm d _ _ (usable′ b re m) (λ n e. g .b2 .use-spec _ n e))
+      (λ n e. let q = at-out _ d _ e in g .b2 .sys-spec n (usable-system Y n (q .0) (q .1)))
+  same-facts (Composed c v) = atC b t g nm c _ _
+      (λ m. atV b t g nm v _ _ (composed′ b re m) (λ n e. versionOf _ (sym (g .b2 .sys-covers _ n (sys-of _ n e)) ∙ e)))
+      (λ n e. let q = at-out _ v _ e in g .b2 .sys-spec n (sys-of n (q .0) (q .1)))
   same-facts (Requires c v f) = atC b t g nm c _ _
-      (λ m. atV b t g nm v _ _ (λ k. atF b t g nm f _ _ (requires′ b re m k) (λ n e. requiredBy _ _ e)) (λ n e. let q = at-out _ f _ e in versionOf _ (requires-version S _ n (q .0) (q .1))))
-      (λ n e. let q = at-out _ v _ e in let r = at-out _ f _ (q .1) in version-specified S n (q .0) (requires-version S n (q .0) (r .0) (r .1)))
+      (λ m. atV b t g nm v _ _ (λ k. atF b t g nm f _ _ (requires′ b re m k) (λ n e. requiredBy _ _ e))
+      (λ n e. let q = at-out _ f _ e in versionOf _ (requires-version S _ n (q .0) (q .1))))
+      (λ n e. let q = at-out _ v _ e in let r = at-out _ f _ (q .1) in
+      version-specified S n (q .0) (requires-version S n (q .0) (r .0) (r .1)))
   same-facts (Implemented c v i) = atC b t g nm c _ _
       (λ m. atV b t g nm v _ _
-        (λ k. atI b t g nm i _ _ (λ j. ap (λ (o : Option ℕ). has o (λ z. j == z)) (implementation′ b re m k) ∙ has-map _ _ _ ∙ has-cong _ (λ z e. eq-through _ _ _ _ (re .ofI) j z (implementationOf _ _ e)))
-          (λ n e. let q = has-out _ _ e in implementationOf _ _ (q .1 ∙ ap some (sym (==-out _ _ (q .2))))))
-        (λ n e. let q = at-out _ i _ e in let r = has-out _ _ (q .1) in versionOf _ (impl-version _ n (r .0) (r .1))))
-      (λ n e. let q = at-out _ v _ e in let p = at-out _ i _ (q .1) in let r = has-out _ _ (p .1) in g .b2 .mod-spec n (implementation-module M n (q .0) (r .0) (r .1)))
+      (λ k. atI b t g nm i _ _ (λ j. ap (λ (o : Option ℕ). has o (λ z. j == z)) (implementation′ b re m k) ∙ has-map _ _ _
+      ∙ has-cong _ (λ z e. eq-through _ _ _ _ (re .ofI) j z (implementationOf _ _ e)))
+      (λ n e. let q = has-out _ _ e in implementationOf _ _ (q .1 ∙ ap some (sym (==-out _ _ (q .2))))))
+      (λ n e. let q = at-out _ i _ e in let r = has-out _ _ (q .1) in versionOf _ (impl-version _ n (r .0) (r .1))))
+      (λ n e. let q = at-out _ v _ e in let p = at-out _ i _ (q .1) in let r = has-out _ _ (p .1) in
+      g .b2 .mod-spec n (implementation-module M n (q .0) (r .0) (r .1)))
   same-facts (Member c v d w) = atC b t g nm c _ _
       (λ m. atV b t g nm v _ _
-        (λ k. atC b t g nm d _ _
-          (λ j. atV b t g nm w _ _ (λ x. ap (λ (o : Option ℕ). has o (λ z. x == z)) (member′ b re m k j) ∙ has-map _ _ _ ∙ has-cong _ (λ z e. eq-through _ _ _ _ (re .ofV) x z (versionOf _ (mem-usable S Y (g .systemLimits) (g .b5) _ _ _ z e .1))))
-            (λ n e. let q = has-out _ _ e in versionOf _ (mem-usable S Y (g .systemLimits) (g .b5) _ _ _ n (q .1 ∙ ap some (sym (==-out _ _ (q .2)))) .1)))
-          (λ n e. let q = at-out _ w _ e in let r = has-out _ _ (q .1) in member-spec _ _ n (r .0) (r .1)))
-        (λ n e. let p = at-out _ d _ e in let q = at-out _ w _ (p .1) in let r = has-out _ _ (q .1) in let k = member-composed Y _ n (p .0) (r .0) (r .1) in versionOf _ (sym (g .b2 .sys-covers _ n (sys-of _ n k)) ∙ k)))
-      (λ n e. let o = at-out _ v _ e in let p = at-out _ d _ (o .1) in let q = at-out _ w _ (p .1) in let r = has-out _ _ (q .1) in g .b2 .sys-spec n (sys-of n (o .0) (member-composed Y n (o .0) (p .0) (r .0) (r .1))))
+      (λ k. atC b t g nm d _ _
+      (λ j. atV b t g nm w _ _ (λ x. ap (λ (o : Option ℕ). has o (λ z. x == z)) (member′ b re m k j) ∙ has-map _ _ _
+      ∙ has-cong _ (λ z e. eq-through _ _ _ _ (re .ofV) x z
+      (versionOf _ (mem-usable S Y (g .systemLimits) (g .b5) _ _ _ z e .1))))
+      (λ n e. let q = has-out _ _ e in
+      versionOf _ (mem-usable S Y (g .systemLimits) (g .b5) _ _ _ n (q .1 ∙ ap some (sym (==-out _ _ (q .2)))) .1)))
+      (λ n e. let q = at-out _ w _ e in let r = has-out _ _ (q .1) in member-spec _ _ n (r .0) (r .1)))
+      (λ n e. let p = at-out _ d _ e in let q = at-out _ w _ (p .1) in let r = has-out _ _ (q .1) in
+      let k = member-composed Y _ n (p .0) (r .0) (r .1) in versionOf _ (sym (g .b2 .sys-covers _ n (sys-of _ n k)) ∙ k)))
+      (λ n e. let o = at-out _ v _ e in let p = at-out _ d _ (o .1) in let q = at-out _ w _ (p .1) in
+      let r = has-out _ _ (q .1) in g .b2 .sys-spec n (sys-of n (o .0) (member-composed Y n (o .0) (p .0) (r .0) (r .1))))
 
 -- "A book written as text and read into an empty session is the same book by names": and each command of the text is accepted.
 pub reads-back : (s : State) → PassesNamed s

@@ -41,15 +41,21 @@ command-none : command [] ≡ over
 unfolding lexing command commandOf
 command-none = refl
 
-pub runs-text : {s s₁ : State} {ks : List Said} → Runs s ks s₁ → (n i : ℕ) → length ks ≤ n → sessionFrom n i s (joined (map line ks)) ≡ (accepted i (length ks), s₁)
+pub runs-text : {s s₁ : State} {ks : List Said} → Runs s ks s₁ → (n i : ℕ) → length ks ≤ n
+    → sessionFrom n i s (joined (map line ks)) ≡ (accepted i (length ks), s₁)
 unfolding sessionFrom joined accepted onRead lines afterwards
 runs-text done zero i h = refl
 runs-text {s} done (suc n) i h = ap (onRead _ i s) command-none
 runs-text (step w e r) zero i h = absurd (omega arith)
 runs-text (step {s} {s₁} {s₂} {k} {ks} w e r) (suc n) i h =
     ap (onRead _ i s) (command-reads k (joined (map line ks)) w)
-    ∙ ap (λ (x : Result). (lines i x ++ sessionFrom n (suc i) (afterwards s x) (10 ∷ joined (map line ks)) .0, sessionFrom n (suc i) (afterwards s x) (10 ∷ joined (map line ks)) .1)) e
-    ∙ ap (λ (x : Text × State). (row i (decimal 0) ++ x .0, x .1)) (session-linefeed n (suc i) s₁ (joined (map line ks)) ∙ runs-text r n (suc i) (omega arith))
+    ∙ ap (λ (x : Result). (
+      lines i x ++ sessionFrom n (suc i) (afterwards s x) (10 ∷ joined (map line ks)) .0,
+      sessionFrom n
+          (suc i) (afterwards s x) (10 ∷ joined (map line ks)) .1,
+    )) e
+    ∙ ap (λ (x : Text × State). (row i (decimal 0) ++ x .0, x .1)) (session-linefeed n (suc i) s₁ (joined (map line ks))
+    ∙ runs-text r n (suc i) (omega arith))
 
 -- ---- one command, with the numbers of the tables that are reached in the end
 
@@ -59,13 +65,16 @@ length-longer t T l n h = ≤?-in _ _ (let a = ≤?-out _ _ h in let b = ap leng
 fits-longer : (t T : Tables) → Longer t T → fits T ≡ true → fits t ≡ true
 unfolding fits
 fits-longer t T l h =
-    and-in _ _ (length-longer _ _ (l .comps) _ (and-l _ _ h)) (and-in _ _ (length-longer _ _ (l .vers) _ (and-l _ _ (and-r _ _ h)))
-    (and-in _ _ (length-longer _ _ (l .facs) _ (and-l _ _ (and-r _ _ (and-r _ _ h)))) (length-longer _ _ (l .impls) _ (and-r _ _ (and-r _ _ (and-r _ _ h))))))
+    and-in _ _ (length-longer _ _ (l .comps) _ (and-l _ _ h))
+    (and-in _ _ (length-longer _ _ (l .vers) _ (and-l _ _ (and-r _ _ h)))
+    (and-in _ _ (length-longer _ _ (l .facs) _ (and-l _ _ (and-r _ _ (and-r _ _ h))))
+    (length-longer _ _ (l .impls) _ (and-r _ _ (and-r _ _ (and-r _ _ h))))))
 
 pub reachedBy : State → Command → Tables → State
 reachedBy s K t = record { book = after (s .book) K; tables = t }
 
-adds : (s : State) (names T : Tables) (f : Tables → Command) (K : Command) → Longer (entered (s .tables) names) T → fits T ≡ true → f (entered (s .tables) names) ≡ K → answer (s .book) K ≡ 0
+adds : (s : State) (names T : Tables) (f : Tables → Command) (K : Command) → Longer (entered (s .tables) names) T → fits T ≡ true
+    → f (entered (s .tables) names) ≡ K → answer (s .book) K ≡ 0
     → add s names f ≡ changed (reachedBy s K (entered (s .tables) names))
 unfolding add told decided reachedBy
 adds s names T f K l h e a =
@@ -74,11 +83,13 @@ adds s names T f K l h e a =
     ∙ ap (λ (n : ℕ). decided n (record { book = after (s .book) K; tables = entered (s .tables) names })) a
 
 -- a written command, with its numbers in the tables T that are reached in the end, is carried out if the book accepts it
-pub carries : (s : State) (T : Tables) (k : Said) (K : Command) → Writable k → Numbered T k K → Longer (entered (s .tables) (mentioned k)) T → fits T ≡ true → answer (s .book) K ≡ 0
+pub carries : (s : State) (T : Tables) (k : Said) (K : Command) → Writable k → Numbered T k K
+    → Longer (entered (s .tables) (mentioned k)) T → fits T ≡ true → answer (s .book) K ≡ 0
     → carry s k ≡ changed (reachedBy s K (entered (s .tables) (mentioned k)))
 unfolding carry mentioned entered specNames modNames sysNames
 carries s T k K (aSpec {c} {ps} {vs} {s = d} oc op ov e o) nSpec l h a =
-    adds s (specNames c ps vs) T (λ t. specNumbered t c ps vs d) _ l h (same-spec _ T c ps vs d l (names-in _ _) (names-in _ _) (names-in _ _) (std-among d vs o)) a
+    adds s (specNames c ps vs) T (λ t. specNumbered t c ps vs d) _ l h
+    (same-spec _ T c ps vs d l (names-in _ _) (names-in _ _) (names-in _ _) (std-among d vs o)) a
 carries s T k K (aMod {c} {is} oc o e) nMod l h a =
     adds s (modNames c is) T (λ t. modNumbered t c is) _ l h (same-mod _ T c is l (names-in _ _) (names-in _ _) (names-in _ _)) a
 carries s T k K (aSys {c} {us} {ks} oc ou eu o e) nSys l h a =
@@ -91,7 +102,11 @@ allEntered t [] = t
 allEntered t (k ∷ ks) = allEntered (entered t (mentioned k)) ks
 
 grown-trans : (t u v : Table) → Grown t u → Grown u v → Grown t v
-grown-trans t u v a b = record { more = a .more ++ b .more; is = b .is ∙ ap (λ (z : Table). z ++ b .more) (a .is) ∙ append-assoc t (a .more) (b .more) }
+grown-trans t u v a b = record {
+  more = a .more ++ b .more;
+  is = b .is ∙ ap (λ (z : Table). z ++ b .more) (a .is)
+      ∙ append-assoc t (a .more) (b .more);
+}
 
 grown-enter : (t : Table) (ws : List Name) → Grown t (enter t ws)
 grown-enter t ws = let q = enter-longer t ws in record { more = q .0; is = q .1 }
@@ -102,27 +117,41 @@ all-longer t [] = record { comps = self _; vers = self _; facs = self _; impls =
   where
     self : (x : Table) → Grown x x
     self x = record { more = []; is = sym (append-nil x) }
-all-longer t (k ∷ ks) = longer-trans t (entered t (mentioned k)) _ (entered-longer t (mentioned k)) (all-longer (entered t (mentioned k)) ks)
+all-longer t (k ∷ ks) = longer-trans t (entered t (mentioned k)) _ (entered-longer t (mentioned k))
+    (all-longer (entered t (mentioned k)) ks)
   where
     longer-trans : (t u v : Tables) → Longer t u → Longer u v → Longer t v
-    longer-trans t u v a b = record { comps = grown-trans _ _ _ (a .comps) (b .comps); vers = grown-trans _ _ _ (a .vers) (b .vers); facs = grown-trans _ _ _ (a .facs) (b .facs); impls = grown-trans _ _ _ (a .impls) (b .impls) }
+    longer-trans t u v a b = record {
+      comps = grown-trans _ _ _ (a .comps) (b .comps);
+      vers = grown-trans _ _ _ (a .vers)
+          (b .vers);
+      facs = grown-trans _ _ _ (a .facs) (b .facs);
+      impls = grown-trans _ _ _ (a .impls) (b .impls);
+    }
+
     entered-longer : (t m : Tables) → Longer t (entered t m)
-    entered-longer t m = unfold entered in record { comps = grown-enter _ _; vers = grown-enter _ _; facs = grown-enter _ _; impls = grown-enter _ _ }
+    entered-longer t m = unfold entered in
+        record { comps = grown-enter _ _; vers = grown-enter _ _; facs = grown-enter _ _; impls = grown-enter _ _ }
 
 -- commands that the book accepts one after the other, with their numbers in T
 pub data Plan (T : Tables) : Book → List Said → Book → Type 0 where
   stop : {b : Book} → Plan T b [] b
-  go : {b b₁ : Book} {k : Said} {ks : List Said} (K : Command) → Writable k → Numbered T k K → answer b K ≡ 0 → Plan T (after b K) ks b₁ → Plan T b (k ∷ ks) b₁
+  go : {b b₁ : Book} {k : Said} {ks : List Said} (K : Command) → Writable k → Numbered T k K → answer b K ≡ 0
+      → Plan T (after b K) ks b₁ → Plan T b (k ∷ ks) b₁
 
 pub plan-append : {T : Tables} {b b₁ b₂ : Book} {ks ls : List Said} → Plan T b ks b₁ → Plan T b₁ ls b₂ → Plan T b (ks ++ ls) b₂
 plan-append stop q = q
 plan-append (go K w n a p) q = go K w n a (plan-append p q)
 
-pub plan-runs : (T : Tables) → fits T ≡ true → {b b₁ : Book} {ks : List Said} → Plan T b ks b₁ → (t : Tables) → allEntered t ks ≡ T → Runs (record { book = b; tables = t }) ks (record { book = b₁; tables = T })
+pub plan-runs : (T : Tables) → fits T ≡ true → {b b₁ : Book} {ks : List Said} → Plan T b ks b₁ → (t : Tables) → allEntered t ks
+    ≡ T → Runs (record { book = b; tables = t }) ks (record { book = b₁; tables = T })
 unfolding allEntered reachedBy
-plan-runs T h {b} stop t e = subst (λ (z : Tables). Runs (record { book = b; tables = t }) [] (record { book = b; tables = z })) e done
+plan-runs T h {b} stop t e = subst (λ (z : Tables). Runs (record { book = b; tables = t }) []
+    (record { book = b; tables = z })) e done
 plan-runs T h (go {k = k} {ks = ks} K w n a p) t e =
-    step w (carries (record { book = _; tables = t }) T k K w n (subst (Longer (entered t (mentioned k))) e (all-longer (entered t (mentioned k)) ks)) h a) (plan-runs T h p (entered t (mentioned k)) e)
+    step w (carries (record { book = _; tables = t }) T k K w n
+    (subst (Longer (entered t (mentioned k))) e (all-longer (entered t (mentioned k)) ks)) h a)
+    (plan-runs T h p (entered t (mentioned k)) e)
 
 -- ---- a text has no fewer bytes than commands
 

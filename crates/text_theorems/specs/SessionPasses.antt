@@ -1,4 +1,4 @@
--- Every state that a session reaches passes the question for 25, its book and its tables: for every text, whatever the commands in it.
+-- Every state that a session reaches passes the question for 25, its book and its tables: for every text.
 -- names: required
 use mathlib.Core.Bool.{Bool, true}
 use mathlib.Core.List.{[], _∷_}
@@ -36,7 +36,7 @@ use Rattle.theorems.specs.Good.{Good, good→passes, passes→good, requires-ve
 use Rattle.theorems.specs.MapLaws.{andThen-out, has-out, isSome-out, no-some}
 use Rattle.theorems.specs.Sequence.{empty-passes}
 use contract.Running.{tables}
-use Rattle.theorems.specs.Keep.{accepted as accepted′} -- keep
+use Rattle.theorems.specs.Keep.{accepted as accepted′}  -- keep
 use Rattle.model.specs.Queries as queries
 
 pub record Reached (s : State) : Type 0 where
@@ -51,22 +51,25 @@ unfolding told
 told-reached s t k r a o n p = go (answer (s .book) k) refl
   where
     go : (m : ℕ) → answer (s .book) k ≡ m → Reached (afterwards s (decided m (record { book = after (s .book) k; tables = t })))
-    go zero e = unfold decided afterwards in record { good = accepted′ (s .book) k (r .good) e; valid = a; once = o; numbers = after-numbers _ _ _ _ (s .book) k n p }
+    go zero e = unfold decided afterwards in
+        record { good = accepted′ (s .book) k (r .good) e; valid = a; once = o; numbers = after-numbers _ _ _ _ (s .book) k n p }
     go (suc m) e = unfold decided afterwards in r
 
 -- a command that brings no names
 plain-reached : (s : State) (k : Command) → Reached s → Puts (s .tables) k → Reached (afterwards s (told (s .book) (s .tables) k))
 plain-reached s k r p = told-reached s (s .tables) k r (r .valid) (r .once) (r .numbers) p
 
-add-reached : (s : State) (m : Tables) (f : Tables → Command) → Reached s → AllValid m → Puts (entered (s .tables) m) (f (entered (s .tables) m))
+add-reached : (s : State) (m : Tables) (f : Tables → Command) → Reached s → AllValid m
+    → Puts (entered (s .tables) m) (f (entered (s .tables) m))
     → Reached (afterwards s (add s m f))
 unfolding add
 add-reached s m f r a p = by-test (λ x. Reached (afterwards s x)) (fits (entered (s .tables) m)) _ _
     (λ e. told-reached s (entered (s .tables) m) _ r (entered-valid _ _ (r .valid) a) (entered-apart _ _ (r .once))
-      (entered-held _ _ _ (r .numbers)) p)
+    (entered-held _ _ _ (r .numbers)) p)
     (unfold afterwards in r)
 
-one-reached : (s : State) (n : ℕ) (c : Name) (f : ℕ → Result) → Reached s → ((d : ℕ) → Reached (afterwards s (f d))) → Reached (afterwards s (ofComponent s n c f))
+one-reached : (s : State) (n : ℕ) (c : Name) (f : ℕ → Result) → Reached s → ((d : ℕ) → Reached (afterwards s (f d)))
+    → Reached (afterwards s (ofComponent s n c f))
 unfolding ofComponent
 one-reached s n c f r h = go (place (s .tables .comps) c)
   where
@@ -81,7 +84,8 @@ pair-reached s n there c v f r h = go (place (s .tables .comps) c) (place (s .ta
   where
     go : (o p : Option ℕ) → Reached (afterwards s (forPair n there o p f))
     go none p = unfold forPair afterwards in r
-    go (some d) none = unfold forPair in by-test (λ x. Reached (afterwards s x)) (there d) _ _ (λ e. unfold afterwards in r) (unfold afterwards in r)
+    go (some d) none = unfold forPair in
+        by-test (λ x. Reached (afterwards s x)) (there d) _ _ (λ e. unfold afterwards in r) (unfold afterwards in r)
     go (some d) (some w) = unfold forPair in h d w
 
 -- a query changes nothing
@@ -100,15 +104,18 @@ asked-reached s q r = go (reply (s .book) q)
 carry-reached : (s : State) (k : Said) → Reached s → validSaid k ≡ true → Reached (afterwards s (carry s k))
 unfolding carry validSaid puts
 carry-reached s (SPEC c ps vs d) r h =
-    add-reached s _ _ r (spec-valid c ps vs (and-l _ _ h) (and-l _ _ (and-r _ _ h)) (and-r _ _ (and-r _ _ h))) (spec-puts (s .tables) c ps vs d)
+    add-reached s _ _ r (spec-valid c ps vs (and-l _ _ h) (and-l _ _ (and-r _ _ h)) (and-r _ _ (and-r _ _ h)))
+    (spec-puts (s .tables) c ps vs d)
 carry-reached s (MOD c is) r h = add-reached s _ _ r (mod-valid c is (and-l _ _ h) (and-r _ _ h)) (mod-puts (s .tables) c is)
 carry-reached s (SYS c us ks) r h =
-    add-reached s _ _ r (sys-valid c us ks (and-l _ _ h) (and-l _ _ (and-r _ _ h)) (and-r _ _ (and-r _ _ h))) (sys-puts (s .tables) c us ks)
+    add-reached s _ _ r (sys-valid c us ks (and-l _ _ h) (and-l _ _ (and-r _ _ h)) (and-r _ _ (and-r _ _ h)))
+    (sys-puts (s .tables) c us ks)
 carry-reached s (MODVAR c v rs i) r h =
     add-reached s _ _ r (modvar-valid c v rs i (and-l _ _ h) (and-l _ _ (and-r _ _ h)) (and-l _ _ (and-r _ _ (and-r _ _ h)))
     (and-r _ _ (and-r _ _ (and-r _ _ h)))) (modvar-puts (s .tables) c v rs i)
 carry-reached s (SYSVAR c v ms) r h =
-    add-reached s _ _ r (sysvar-valid c v ms (and-l _ _ h) (and-l _ _ (and-r _ _ h)) (and-r _ _ (and-r _ _ h))) (sysvar-puts (s .tables) c v ms)
+    add-reached s _ _ r (sysvar-valid c v ms (and-l _ _ h) (and-l _ _ (and-r _ _ h)) (and-r _ _ (and-r _ _ h)))
+    (sysvar-puts (s .tables) c v ms)
 carry-reached s (DELSPEC c) r h = one-reached s _ c _ r (λ d. plain-reached s (DEL-SPEC d) r refl)
 carry-reached s (DELMOD c) r h = one-reached s _ c _ r (λ d. plain-reached s (DEL-MOD d) r refl)
 carry-reached s (DELSYS c) r h = one-reached s _ c _ r (λ d. plain-reached s (DEL-SYS d) r refl)
@@ -119,7 +126,8 @@ carry-reached s (STANDARD c) r h = one-reached s _ c _ r (λ d. asked-reached s 
 carry-reached s (WHEREUSED c) r h = one-reached s _ c _ r (λ d. asked-reached s _ r)
 carry-reached s (NEEDS c v) r h = pair-reached s _ _ c v _ r (λ d w. asked-reached s _ r)
 carry-reached s (PARTS c v) r h = pair-reached s _ _ c v _ r (λ d w. asked-reached s _ r)
-carry-reached s (CHOICE fs) r h = by-test (λ x. Reached (afterwards s x)) _ _ _ (λ e. asked-reached s _ r) (unfold afterwards in r)
+carry-reached s (CHOICE fs) r h = by-test (λ x. Reached (afterwards s x)) _ _ _ (λ e. asked-reached s _ r) (unfold afterwards in
+    r)
 carry-reached s UNDEFINED r h = asked-reached s _ r
 carry-reached s UNUSED r h = asked-reached s _ r
 carry-reached s OUT r h = unfold afterwards in r
@@ -168,10 +176,13 @@ reached-named s r = record {
 }
   where
     spec-at : (c v : ℕ) → hasVersion (s .book .specs) c v ≡ true
-        → (q : Set) × (required (s .book .specs) c v ≡ some q) × (held (s .tables .vers) v ≡ true) × ((f : ℕ) → q f ≡ true → held (s .tables .facs) f ≡ true)
+        → (q : Set) × (required (s .book .specs) c v ≡ some q) × (held (s .tables .vers) v ≡ true) × ((f : ℕ) → q f ≡ true
+        → held (s .tables .facs) f ≡ true)
     spec-at c v e = unfold hasVersion required in
-        let q = isSome-out (andThen (s .book .specs c) (λ x. x .req v)) e in let a = andThen-out (s .book .specs c) (λ x. x .req v) (q .0) (q .1) in
+        let q = isSome-out (andThen (s .book .specs c) (λ x. x .req v)) e in
+        let a = andThen-out (s .book .specs c) (λ x. x .req v) (q .0) (q .1) in
         let h = r .numbers .specs c (a .0) (a .1) .1 .req v (q .0) (a .2) in (q .0, q .1, h .0, h .1)
+
     req-at : (c v f : ℕ) → requires (s .book .specs) c v f ≡ true → held (s .tables .facs) f ≡ true
     req-at c v f e = unfold requires in
         let q = has-out (required (s .book .specs) c v) (λ q. q f) e in

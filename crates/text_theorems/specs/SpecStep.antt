@@ -69,7 +69,8 @@ module _ (b : Book) (g : Good b) (re : Renumbering (b .specs) (b .modules)) wher
 
   spec-new : (c : ℕ) (x : Spec) → specified S c ≡ true → S c ≡ some x → S′ (gc c) ≡ some (pullSpec fv ff gv x)
   unfolding newSpecs optionMap
-  spec-new c x there e = ap (λ (k : ℕ). optionMap (pullSpec fv ff gv) (S k)) (re .ofC .back c there) ∙ ap (optionMap (pullSpec fv ff gv)) e
+  spec-new c x there e = ap (λ (k : ℕ). optionMap (pullSpec fv ff gv) (S k)) (re .ofC .back c there)
+      ∙ ap (optionMap (pullSpec fv ff gv)) e
 
   module _ (c : ℕ) (ls : SpecLists S c) (l : List ℕ) (there : specified S c ≡ true) (fresh : elem (gc c) l ≡ false) where
     abbrev lp : List ℕ
@@ -107,15 +108,18 @@ module _ (b : Book) (g : Good b) (re : Renumbering (b .specs) (b .modules)) wher
     spec-small =
         and-in _ _ (<?-in _ _ (re .ofC .small c there))
         (and-in _ _ (new-small ff gf facilities (UsedF S) (re .ofF) lp _ kp usedP)
-        (and-in _ _ (ap (every (λ x. x <? versions)) (firsts-map gv _ lv) ∙ new-small fv gv versions (UsedV S) (re .ofV) lv _ kv usedV)
-        (and-in _ _ (ap (every (every (λ x. x <? facilities))) (seconds-map gv _ lv) ∙ every-of _ _ lv (λ v e. new-small ff gf facilities (UsedF S) (re .ofF) (lq v) _ (kq v) (usedQ v)))
+        (and-in _ _ (ap (every (λ x. x <? versions)) (firsts-map gv _ lv)
+        ∙ new-small fv gv versions (UsedV S) (re .ofV) lv _ kv usedV)
+        (and-in _ _ (ap (every (every (λ x. x <? facilities))) (seconds-map gv _ lv)
+        ∙ every-of _ _ lv (λ v e. new-small ff gf facilities (UsedF S) (re .ofF) (lq v) _ (kq v) (usedQ v)))
         (<?-in _ _ (re .ofV .small _ (versionOf c (g .b1 .std-in c there)))))))
 
     spec-free : every (free (setOf (map gf lp))) (map (λ v. map gf (lq v)) lv) ≡ true
     unfolding free setOf
     spec-free = every-of _ _ lv (λ v e. every-of _ gf (lq v) (λ f q. not-in _
         (let r = sym (kq v .each f) ∙ q in
-        new-each ff gf facilities (UsedF S) (re .ofF) lp _ kp usedP (gf f) ∙ ap (provides S c) (re .ofF .back f (usedQ v f r)) ∙ g .b1 .apart c v f r)))
+        new-each ff gf facilities (UsedF S) (re .ofF) lp _ kp usedP (gf f) ∙ ap (provides S c) (re .ofF .back f (usedQ v f r))
+        ∙ g .b1 .apart c v f r)))
 
     pub spec-yes : answer (bs l) (specK c ls) ≡ 0
     unfolding answer questions specK bs specified isSome
@@ -124,18 +128,23 @@ module _ (b : Book) (g : Good b) (re : Renumbering (b .specs) (b .modules)) wher
         (yes-all (nonEmpty-map _ lv (lists-nonEmpty lv _ kv _ (g .b1 .std-in c there)))
         (yes-all (ap once (firsts-map gv _ lv) ∙ new-once fv gv versions (UsedV S) (re .ofV) lv _ kv usedV)
         (yes-all (not-in _ (ap isSome (only-out l S′ (gc c) fresh)))
-        (yes-all (≤?-in _ _ (subst (λ (n : ℕ). n ≤ 8) (sym (length-map _ lv)) (le-trans (lists-length versions lv _ kv (λ v e. g .specLimits .version< c v e)) (g .b1 .few c))))
+        (yes-all (≤?-in _ _ (subst (λ (n : ℕ). n ≤ 8) (sym (length-map _ lv))
+        (le-trans (lists-length versions lv _ kv (λ v e. g .specLimits .version< c v e)) (g .b1 .few c))))
         (yes-all (ap (every (free (setOf (map gf lp)))) (seconds-map gv _ lv) ∙ spec-free)
-        (yes-all (ap (elem (gv (standard S c))) (firsts-map gv _ lv) ∙ new-each fv gv versions (UsedV S) (re .ofV) lv _ kv usedV (gv (standard S c)) ∙ ap (hasVersion S c) std-back ∙ g .b1 .std-in c there)
+        (yes-all (ap (elem (gv (standard S c))) (firsts-map gv _ lv)
+        ∙ new-each fv gv versions (UsedV S) (re .ofV) lv _ kv usedV (gv (standard S c)) ∙ ap (hasVersion S c) std-back
+        ∙ g .b1 .std-in c there)
         none-left)))))))
 
-    req-new : (x : Spec) → S c ≡ some x → (v : ℕ) → optionMap setOf (beside (map (λ v. (gv v, map gf (lq v))) lv) v) ≡ optionMap (λ q f. q (ff f)) (x .req (fv v))
+    req-new : (x : Spec) → S c ≡ some x → (v : ℕ) → optionMap setOf (beside (map (λ v. (gv v, map gf (lq v))) lv) v)
+        ≡ optionMap (λ q f. q (ff f)) (x .req (fv v))
     unfolding optionMap setOf has
     req-new x e v =
         elim (bool? (hasVersion S c (fv v))) [
           | inl h ↦ (let q = isSome-out _ (sym (hasVersion-at S c x e (fv v)) ∙ h) in
               ap (optionMap setOf) (new-beside fv gv versions (UsedV S) (re .ofV) lv _ kv usedV (λ v. map gf (lq v)) v h)
-              ∙ ap some (fun-ext (λ f. new-each ff gf facilities (UsedF S) (re .ofF) (lq (fv v)) _ (kq (fv v)) (usedQ (fv v)) f ∙ requires-at S c x e (fv v) (ff f) ∙ ap (λ (o : Option Set). has o (λ r. r (ff f))) (q .1)))
+              ∙ ap some (fun-ext (λ f. new-each ff gf facilities (UsedF S) (re .ofF) (lq (fv v)) _ (kq (fv v)) (usedQ (fv v)) f
+              ∙ requires-at S c x e (fv v) (ff f) ∙ ap (λ (o : Option Set). has o (λ r. r (ff f))) (q .1)))
               ∙ sym (ap (optionMap (λ q f. q (ff f))) (q .1)))
           | inr h ↦ ap (optionMap setOf) (new-beside-no fv gv versions (UsedV S) (re .ofV) lv _ kv usedV (λ v. map gf (lq v)) v h)
               ∙ sym (ap (optionMap (λ q f. q (ff f))) (isSome-no _ (sym (hasVersion-at S c x e (fv v)) ∙ h)))
@@ -146,7 +155,12 @@ module _ (b : Book) (g : Good b) (re : Renumbering (b .specs) (b .modules)) wher
     spec-after =
         let q = isSome-out (S c) (unfold specified in there) in
         let x = q .0 in let e = q .1 in
-        let y : Spec = record { prov = setOf (map gf lp); req = λ v. optionMap setOf (beside (map (λ v. (gv v, map gf (lq v))) lv) v); std = gv (standard S c) } in
+        let y : Spec = record {
+          prov = setOf (map gf lp);
+          req = λ v. optionMap setOf
+              (beside (map (λ v. (gv v, map gf (lq v))) lv) v);
+          std = gv (standard S c);
+        } in
         let z : y ≡ pullSpec fv ff gv x = λ i. record {
           prov = λ f. (new-each ff gf facilities (UsedF S) (re .ofF) lp _ kp usedP f ∙ provides-at S c x e (ff f)) i;
           req = λ v. req-new x e v i;

@@ -137,9 +137,11 @@ module _ (b : Book) (g : Good b) (re : Renumbering (b .specs) (b .modules)) wher
 
   system-new : (s : ℕ) (y : System) → specified S s ≡ true → Y s ≡ some y → Y′ (gc s) ≡ some (pullSystem fc fv gv y)
   unfolding newSystems optionMap
-  system-new s y there e = ap (λ (k : ℕ). optionMap (pullSystem fc fv gv) (Y k)) (re .ofC .back s there) ∙ ap (optionMap (pullSystem fc fv gv)) e
+  system-new s y there e = ap (λ (k : ℕ). optionMap (pullSystem fc fv gv) (Y k)) (re .ofC .back s there)
+      ∙ ap (optionMap (pullSystem fc fv gv)) e
 
-  module _ (s : ℕ) (ls : SysLists Y s) (l : List ℕ) (there : isSystem Y s ≡ true) (fresh : elem (gc s) l ≡ false) (closed : Closed (gc s ∷ l)) where
+  module _ (s : ℕ) (ls : SysLists Y s) (l : List ℕ) (there : isSystem Y s ≡ true) (fresh : elem (gc s) l ≡ false)
+      (closed : Closed (gc s ∷ l)) where
     abbrev lu : List ℕ
     lu = ls .uses
 
@@ -182,16 +184,19 @@ module _ (b : Book) (g : Good b) (re : Renumbering (b .specs) (b .modules)) wher
 
     memV : (v c : ℕ) → isMember Y s v c ≡ true → UsedV S (mv v c)
     unfolding isMember
-    memV v c e = let q = isSome-out _ e in versionOf c (ap (hasVersion S c) (kw v c (q .0) (q .1)) ∙ mem-usable S Y (g .systemLimits) (g .b5) s v c (q .0) (q .1) .1)
+    memV v c e = let q = isSome-out _ e in
+        versionOf c (ap (hasVersion S c) (kw v c (q .0) (q .1)) ∙ mem-usable S Y (g .systemLimits) (g .b5) s v c (q .0) (q .1) .1)
 
     has-member : (v : ℕ) → composed Y s v ≡ true → nonEmpty (lm v) ≡ true
     unfolding B5 B5at
-    has-member v e = let q = any-out _ _ (and-l _ _ (composition-out Y (B5at S Y) (g .systemLimits) (g .b5) s v e)) in lists-nonEmpty (lm v) _ (km v) (q .0) (q .2)
+    has-member v e = let q = any-out _ _ (and-l _ _ (composition-out Y (B5at S Y) (g .systemLimits) (g .b5) s v e)) in
+        lists-nonEmpty (lm v) _ (km v) (q .0) (q .2)
 
     member-small : (v : ℕ) → every memberBelow (sysMembers s ls v) ≡ true
     unfolding sysMembers memberBelow if-there
     member-small v = every-of _ _ (lm v) (λ c e.
-        let h = sym (km v .each c) ∙ e in and-in _ _ (<?-in _ _ (re .ofC .small c (memC v c h))) (<?-in _ _ (re .ofV .small (mv v c) (memV v c h))))
+        let h = sym (km v .each c) ∙ e in
+        and-in _ _ (<?-in _ _ (re .ofC .small c (memC v c h))) (<?-in _ _ (re .ofV .small (mv v c) (memV v c h))))
 
     member-once : (v : ℕ) → once (firsts (sysMembers s ls v)) ≡ true
     unfolding sysMembers
@@ -208,21 +213,26 @@ module _ (b : Book) (g : Good b) (re : Renumbering (b .specs) (b .modules)) wher
         let at : member Y s v (fc c) ≡ m (fc c) = unfold member in andThen-in _ _ m e in
         elim (bool? (isMember Y s v (fc c))) [
           | inl h ↦ (let q = isSome-out (member Y s v (fc c)) h in
-              ap (optionMap (λ (w : Option ℕ). orElse w (standard S′ c))) (new-beside fc gc components (UsedC S) (re .ofC) (lm v) _ (km v) (memC v) (λ c. some (gv (mv v c))) c h)
+              ap (optionMap (λ (w : Option ℕ). orElse w (standard S′ c)))
+              (new-beside fc gc components (UsedC S) (re .ofC) (lm v) _ (km v) (memC v) (λ c. some (gv (mv v c))) c h)
               ∙ ap (λ (z : ℕ). some (gv z)) (kw v (fc c) (q .0) (q .1)) ∙ sym (ap (optionMap gv) (sym at ∙ q .1)))
-          | inr h ↦ ap (optionMap (λ (w : Option ℕ). orElse w (standard S′ c))) (new-beside-no fc gc components (UsedC S) (re .ofC) (lm v) _ (km v) (memC v) (λ c. some (gv (mv v c))) c h)
+          | inr h ↦ ap (optionMap (λ (w : Option ℕ). orElse w (standard S′ c)))
+              (new-beside-no fc gc components (UsedC S) (re .ofC) (lm v) _ (km v) (memC v) (λ c. some (gv (mv v c))) c h)
               ∙ sym (ap (optionMap gv) (sym at ∙ isSome-no (member Y s v (fc c)) h))
         ])
 
-    comp-new : (y : System) → Y s ≡ some y → (v : ℕ) → optionMap (stored S′) (beside (map (λ v. (gv v, sysMembers s ls v)) lv) v) ≡ optionMap (λ m c. optionMap gv (m (fc c))) (y .comp (fv v))
+    comp-new : (y : System) → Y s ≡ some y → (v : ℕ) → optionMap (stored S′) (beside (map (λ v. (gv v, sysMembers s ls v)) lv) v)
+        ≡ optionMap (λ m c. optionMap gv (m (fc c))) (y .comp (fv v))
     unfolding optionMap composed
     comp-new y e v =
         let at : composition Y s (fv v) ≡ y .comp (fv v) = unfold composition in andThen-in _ _ y e in
         elim (bool? (composed Y s (fv v))) [
           | inl h ↦ (let q = isSome-out (composition Y s (fv v)) h in
               ap (optionMap (stored S′)) (new-beside fv gv versions (UsedV S) (re .ofV) lv _ kv sysV (sysMembers s ls) v h)
-              ∙ ap some (comp-at (fv v) (q .0) (q .1)) ∙ sym (ap (optionMap {B = Map ℕ} (λ m c. optionMap gv (m (fc c)))) (sym at ∙ q .1)))
-          | inr h ↦ ap (optionMap (stored S′)) (new-beside-no fv gv versions (UsedV S) (re .ofV) lv _ kv sysV (sysMembers s ls) v h)
+              ∙ ap some (comp-at (fv v) (q .0) (q .1))
+              ∙ sym (ap (optionMap {B = Map ℕ} (λ m c. optionMap gv (m (fc c)))) (sym at ∙ q .1)))
+          | inr h ↦ ap (optionMap (stored S′))
+              (new-beside-no fv gv versions (UsedV S) (re .ofV) lv _ kv sysV (sysMembers s ls) v h)
               ∙ sym (ap (optionMap {B = Map ℕ} (λ m c. optionMap gv (m (fc c)))) (sym at ∙ isSome-no (composition Y s (fv v)) h))
         ]
 
@@ -234,7 +244,11 @@ module _ (b : Book) (g : Good b) (re : Renumbering (b .specs) (b .modules)) wher
     unfolding after sysK by pullSystem setOf
     sys-after =
         let q = isSome-out (Y s) (unfold isSystem in there) in
-        let y : System = record { uses = setOf (map gc lu); comp = λ v. optionMap (stored S′) (beside (map (λ v. (gv v, sysMembers s ls v)) lv) v) } in
+        let y : System = record {
+          uses = setOf (map gc lu);
+          comp = λ v. optionMap (stored S′)
+              (beside (map (λ v. (gv v, sysMembers s ls v)) lv) v);
+        } in
         let z : y ≡ pullSystem fc fv gv (q .0) = λ i. record {
           uses = λ c. (new-each fc gc components (UsedC S) (re .ofC) lu _ ku sysU c ∙ uses-at (q .0) (q .1) (fc c)) i;
           comp = λ v. comp-new (q .0) (q .1) v i;
@@ -253,7 +267,8 @@ module _ (b : Book) (g : Good b) (re : Renumbering (b .specs) (b .modules)) wher
     sys-small =
         and-in _ _ (<?-in _ _ (re .ofC .small s sysSpec))
         (and-in _ _ (new-small fc gc components (UsedC S) (re .ofC) lu _ ku sysU)
-        (and-in _ _ (ap (every (λ x. x <? versions)) (firsts-map gv _ lv) ∙ new-small fv gv versions (UsedV S) (re .ofV) lv _ kv sysV)
+        (and-in _ _ (ap (every (λ x. x <? versions)) (firsts-map gv _ lv)
+        ∙ new-small fv gv versions (UsedV S) (re .ofV) lv _ kv sysV)
         (ap (every (every memberBelow)) (seconds-map gv _ lv) ∙ every-of _ _ lv (λ v e. member-small v))))
 
     no-module : isModule M s ≡ false
@@ -263,15 +278,23 @@ module _ (b : Book) (g : Good b) (re : Renumbering (b .specs) (b .modules)) wher
     unfolding answer questions sysK by exactly noRequirements
     sys-yes = no-no
         (yes-all (sys-small)
-        (yes-all (and-in _ _ (nonEmpty-map _ lv (lists-nonEmpty lv _ kv (standard S s) (g .b2 .sys-covers s (standard S s) there ∙ g .b1 .std-in s sysSpec)))
-          (ap (every nonEmpty) (seconds-map gv _ lv) ∙ every-of _ _ lv (λ v e. member-some v (sym (kv .each v) ∙ e))))
+        (yes-all (and-in _ _ (nonEmpty-map _ lv
+        (lists-nonEmpty lv _ kv (standard S s) (g .b2 .sys-covers s (standard S s) there ∙ g .b1 .std-in s sysSpec)))
+        (ap (every nonEmpty) (seconds-map gv _ lv) ∙ every-of _ _ lv (λ v e. member-some v (sym (kv .each v) ∙ e))))
         (yes-all (and-in _ _ (ap once (firsts-map gv _ lv) ∙ new-once fv gv versions (UsedV S) (re .ofV) lv _ kv sysV)
-          (and-in _ _ (new-once fc gc components (UsedC S) (re .ofC) lu _ ku sysU) (ap (every (λ ms. once (firsts ms))) (seconds-map gv _ lv) ∙ every-of _ _ lv (λ v e. member-once v))))
+        (and-in _ _ (new-once fc gc components (UsedC S) (re .ofC) lu _ ku sysU)
+        (ap (every (λ ms. once (firsts ms))) (seconds-map gv _ lv) ∙ every-of _ _ lv (λ v e. member-once v))))
         (yes-all (specified′ b re (gc s) ∙ ap (specified S) back-s ∙ sysSpec)
-        (yes-all (is-undefined M′ (only l Y′) (gc s) (isModule′ b re (gc s) ∙ ap (isModule M) back-s ∙ no-module) (none-yet l (gc s) fresh))
-        (yes-all (all-in _ _ (λ v k. iff-in _ _ (ap (elem v) (firsts-map gv _ lv) ∙ new-each fv gv versions (UsedV S) (re .ofV) lv _ kv sysV v ∙ g .b2 .sys-covers s (fv v) there ∙ ap (λ (z : ℕ). hasVersion S z (fv v)) (sym back-s) ∙ sym (hasVersion′ b re (gc s) v))))
-        (yes-all (all-in _ _ (λ v k. all-in _ _ (λ f j. not-in _ (requires′ b re (gc s) v f ∙ ap (λ (z : ℕ). requires S z (fv v) (ff f)) back-s ∙ g .b2 .sys-bare s (fv v) (ff f) there))))
-        (yes-all (every-of _ gc lu (λ c e. let u = sysU c (sym (ku .each c) ∙ e) in specified′ b re (gc c) ∙ ap (specified S) (re .ofC .back c u) ∙ u))
+        (yes-all (is-undefined M′ (only l Y′) (gc s) (isModule′ b re (gc s) ∙ ap (isModule M) back-s ∙ no-module)
+        (none-yet l (gc s) fresh))
+        (yes-all (all-in _ _ (λ v k. iff-in _ _ (ap (elem v) (firsts-map gv _ lv)
+        ∙ new-each fv gv versions (UsedV S) (re .ofV) lv _ kv sysV v ∙ g .b2 .sys-covers s (fv v) there
+        ∙ ap (λ (z : ℕ). hasVersion S z (fv v)) (sym back-s) ∙ sym (hasVersion′ b re (gc s) v))))
+        (yes-all (all-in _ _ (λ v k. all-in _ _
+        (λ f j. not-in _ (requires′ b re (gc s) v f ∙ ap (λ (z : ℕ). requires S z (fv v) (ff f)) back-s
+        ∙ g .b2 .sys-bare s (fv v) (ff f) there))))
+        (yes-all (every-of _ gc lu (λ c e. let u = sysU c (sym (ku .each c) ∙ e) in specified′ b re (gc c)
+        ∙ ap (specified S) (re .ofC .back c u) ∙ u))
         (yes-all (ap (B3 S′) system-after ∙ keeps3 (gc s ∷ l) closed)
         (yes-all (ap B4 system-after ∙ keeps4 (gc s ∷ l) closed)
         (yes-all (ap B5-to-B9 sys-after ∙ keeps5-9 (gc s ∷ l) closed)

@@ -51,13 +51,15 @@ unfolding nonEmpty
 nonEmpty-map f [] e = e
 nonEmpty-map f (x ∷ xs) e = refl
 
-pub every-imp : {A : Type 0} (f g : A → Bool) (xs : List A) → ((x : A) → f x ≡ true → g x ≡ true) → every f xs ≡ true → every g xs ≡ true
+pub every-imp : {A : Type 0} (f g : A → Bool) (xs : List A) → ((x : A) → f x ≡ true → g x ≡ true) → every f xs ≡ true
+    → every g xs ≡ true
 unfolding every
 every-imp f g [] h e = refl
 every-imp f g (x ∷ xs) h e = and-in _ _ (h x (and-l _ _ e)) (every-imp f g xs h (and-r _ _ e))
 
 -- a test that each name passes
-pub every-append : {A : Type 0} (test : A → Bool) (xs ys : List A) → every test xs ≡ true → every test ys ≡ true → every test (xs ++ ys) ≡ true
+pub every-append : {A : Type 0} (test : A → Bool) (xs ys : List A) → every test xs ≡ true → every test ys ≡ true
+    → every test (xs ++ ys) ≡ true
 unfolding every
 every-append test [] ys p q = q
 every-append test (x ∷ xs) ys p q = and-in _ _ (and-l _ _ p) (every-append test xs ys (and-r _ _ p) q)
@@ -65,9 +67,14 @@ every-append test (x ∷ xs) ys p q = and-in _ _ (and-l _ _ p) (every-append tes
 pub every-among : (test : Name → Bool) (t : Table) (w : Name) → every test t ≡ true → among w t ≡ true → test w ≡ true
 unfolding every among
 every-among test [] w p a = clash a refl
-every-among test (x ∷ xs) w p a = elim (or-out _ _ a) [ inl q ↦ ap test (same-out w x q) ∙ and-l _ _ p | inr q ↦ every-among test xs w (and-r _ _ p) q ]
+every-among test (x ∷ xs) w p a = elim (or-out _ _ a) [
+  | inl q ↦ ap test (same-out w x q)
+      ∙ and-l _ _ p
+  | inr q ↦ every-among test xs w (and-r _ _ p) q
+]
 
-pub every-cons : {A : Type 0} (test : A → Bool) (x : A) (xs : List A) → test x ≡ true → every test xs ≡ true → every test (x ∷ xs) ≡ true
+pub every-cons : {A : Type 0} (test : A → Bool) (x : A) (xs : List A) → test x ≡ true → every test xs ≡ true
+    → every test (x ∷ xs) ≡ true
 unfolding every
 every-cons test x xs p q = and-in _ _ p q
 
@@ -75,7 +82,8 @@ pub every-none : {A : Type 0} (test : A → Bool) → every test [] ≡ true
 unfolding every
 every-none test = refl
 
-pub every-joined : {A : Type 0} (test : Name → Bool) (sel : A → List Name) (xs : List A) → every (λ x. every test (sel x)) xs ≡ true → every test (joined (map sel xs)) ≡ true
+pub every-joined : {A : Type 0} (test : Name → Bool) (sel : A → List Name) (xs : List A) → every (λ x. every test (sel x)) xs
+    ≡ true → every test (joined (map sel xs)) ≡ true
 unfolding every joined
 every-joined test sel [] e = refl
 every-joined test sel (x ∷ xs) e = every-append test (sel x) _ (and-l _ _ e) (every-joined test sel xs (and-r _ _ e))
@@ -90,10 +98,12 @@ unfolding every
 every-r test [] ys e = e
 every-r test (x ∷ xs) ys e = every-r test xs ys (and-r _ _ e)
 
-pub map-every : {A B : Type 0} (test : A → Bool) (f g : A → B) (xs : List A) → every test xs ≡ true → ((x : A) → test x ≡ true → f x ≡ g x) → map f xs ≡ map g xs
+pub map-every : {A B : Type 0} (test : A → Bool) (f g : A → B) (xs : List A) → every test xs ≡ true
+    → ((x : A) → test x ≡ true → f x ≡ g x) → map f xs ≡ map g xs
 unfolding every
 map-every test f g [] e h = refl
-map-every test f g (x ∷ xs) e h = ap₂ (λ (y : _) (ys : List _). y ∷ ys) (h x (and-l _ _ e)) (map-every test f g xs (and-r _ _ e) h)
+map-every test f g (x ∷ xs) e h = ap₂ (λ (y : _) (ys : List _). y ∷ ys) (h x (and-l _ _ e))
+    (map-every test f g xs (and-r _ _ e) h)
 
 -- ---- what may be missing
 
@@ -102,7 +112,8 @@ unfolding has optionMap
 has-map h none t = refl
 has-map h (some x) t = refl
 
-pub if-there-map : {A B : Type 0} (h : A → B) (o : Option A) (t : B → Bool) → if-there (optionMap h o) t ≡ if-there o (λ x. t (h x))
+pub if-there-map : {A B : Type 0} (h : A → B) (o : Option A) (t : B → Bool) → if-there (optionMap h o) t
+    ≡ if-there o (λ x. t (h x))
 unfolding if-there optionMap
 if-there-map h none t = refl
 if-there-map h (some x) t = refl
@@ -118,7 +129,8 @@ or-at o n e = ap (λ (x : Option ℕ). orElse x 0) e
 
 -- ---- tests
 
-pub if-cong : {A : Type 0} (t t′ : Bool) {x x′ y y′ : A} → t ≡ t′ → (t ≡ true → x ≡ x′) → y ≡ y′ → (if t then x else y) ≡ (if t′ then x′ else y′)
+pub if-cong : {A : Type 0} (t t′ : Bool) {x x′ y y′ : A} → t ≡ t′ → (t ≡ true → x ≡ x′) → y ≡ y′ → (if t then x else y)
+    ≡ (if t′ then x′ else y′)
 unfolding if_then_else_
 if-cong true true e f g = f refl
 if-cong true false e f g = clash (sym e) refl
@@ -146,4 +158,8 @@ pub among-names-in : (f : ℕ → Name) (l : List ℕ) (n : ℕ) → elem n l �
 unfolding elem among
 among-names-in f [] n e = clash e refl
 among-names-in f (x ∷ xs) n e =
-    elim (or-out _ _ e) [ inl q ↦ or-l _ _ (ap (λ (z : ℕ). same (f n) (f z)) (sym (==-out _ _ q)) ∙ same-refl (f n)) | inr q ↦ or-r _ _ (among-names-in f xs n q) ]
+    elim (or-out _ _ e) [
+      | inl q ↦ or-l _ _ (ap (λ (z : ℕ). same (f n) (f z)) (sym (==-out _ _ q))
+          ∙ same-refl (f n))
+      | inr q ↦ or-r _ _ (among-names-in f xs n q)
+    ]

@@ -72,12 +72,14 @@ GivesO Q (some x) = Q (x .0) ≡ true
 pub record Gives {A : Type 0} (p : Reader A) (Q : A → Bool) : Type 0 where
   pub at : (t : Text) → GivesO Q (p t)
 
-bind-o : {A B : Type 0} (o : Option (A × Text)) (Q : A → Bool) (R : B → Bool) (f : A → Reader B) → GivesO Q o → ((a : A) → Q a ≡ true → Gives (f a) R) → GivesO R (andThen o (λ x. f (x .0) (x .1)))
+bind-o : {A B : Type 0} (o : Option (A × Text)) (Q : A → Bool) (R : B → Bool) (f : A → Reader B) → GivesO Q o
+    → ((a : A) → Q a ≡ true → Gives (f a) R) → GivesO R (andThen o (λ x. f (x .0) (x .1)))
 unfolding andThen
 bind-o none Q R f l h = tt
 bind-o (some x) Q R f l h = h (x .0) l .at (x .1)
 
-bind-gives : {A B : Type 0} (p : Reader A) (Q : A → Bool) (R : B → Bool) (f : A → Reader B) → Gives p Q → ((a : A) → Q a ≡ true → Gives (f a) R) → Gives (_>>=_ p f) R
+bind-gives : {A B : Type 0} (p : Reader A) (Q : A → Bool) (R : B → Bool) (f : A → Reader B) → Gives p Q
+    → ((a : A) → Q a ≡ true → Gives (f a) R) → Gives (_>>=_ p f) R
 unfolding _>>=_
 bind-gives p Q R f e h = record { at = λ t. bind-o (p t) Q R f (e .at t) h }
 
@@ -138,8 +140,13 @@ impl-gives = record { at = λ t. impl-o (nextToken t) (next-ok t) }
 listIn-gives : {A : Type 0} (n : ℕ) (k : Token) (p : Reader A) (Q : A → Bool) → Gives p Q → Gives (listIn n k p) (every Q)
 unfolding listIn
 listIn-gives zero k p Q e = record { at = λ t. tt }
-listIn-gives (suc n) k p Q e = record { at = λ t. bind-gives p Q (every Q) _ e (λ x a. bind-gives (ahead k) (λ b. true) (every Q) _ (always (ahead k)) (λ on b.
-    bind-gives (when on [] (listIn n k p)) (every Q) (every Q) _ (when-gives (every Q) on [] (listIn n k p) (every-none Q) (listIn-gives n k p Q e)) (λ xs c. give-gives (every Q) (x ∷ xs) (every-cons Q x xs a c)))) .at t }
+listIn-gives (suc n) k p Q e = record {
+  at = λ t. bind-gives p Q (every Q) _ e
+      (λ x a. bind-gives (ahead k) (λ b. true) (every Q) _ (always (ahead k)) (λ on b.
+      bind-gives (when on [] (listIn n k p)) (every Q) (every Q) _
+      (when-gives (every Q) on [] (listIn n k p) (every-none Q) (listIn-gives n k p Q e))
+      (λ xs c. give-gives (every Q) (x ∷ xs) (every-cons Q x xs a c)))) .at t;
+}
 
 list-gives : {A : Type 0} (k : Token) (p : Reader A) (Q : A → Bool) → Gives p Q → Gives (listOf k p) (every Q)
 unfolding listOf
@@ -151,25 +158,31 @@ names-gives = list-gives comma name validName name-gives
 
 upTo-gives : (k : Token) → Gives (namesUpTo k) (every validName)
 unfolding namesUpTo
-upTo-gives k = bind-gives (ahead k) (λ b. true) _ _ (always _) (λ b e. when-gives (every validName) (~ b) [] _ (every-none validName) (bind-gives names (every validName) _ _ names-gives (λ xs a. then-gives (want k) _ _ (give-gives _ xs a))))
+upTo-gives k = bind-gives (ahead k) (λ b. true) _ _ (always _)
+    (λ b e. when-gives (every validName) (~ b) [] _ (every-none validName)
+    (bind-gives names (every validName) _ _ names-gives (λ xs a. then-gives (want k) _ _ (give-gives _ xs a))))
 
 req-gives : Gives requirements (every validName)
 unfolding requirements
-req-gives = bind-gives (ahead (key "requires")) (λ b. true) _ _ (always _) (λ b e. when-gives (every validName) b [] names (every-none validName) names-gives)
+req-gives = bind-gives (ahead (key "requires")) (λ b. true) _ _ (always _)
+    (λ b e. when-gives (every validName) b [] names (every-none validName) names-gives)
 
 pub validPair : Name × Name → Bool
 validPair p = validName (p .0) & validName (p .1)
 
 pair-gives : Gives pair validPair
 unfolding pair validPair
-pair-gives = bind-gives name validName _ _ name-gives (λ c a. then-gives (want point) _ _ (bind-gives name validName _ _ name-gives (λ v b. give-gives _ (c, v) (and-in _ _ a b))))
+pair-gives = bind-gives name validName _ _ name-gives
+    (λ c a. then-gives (want point) _ _ (bind-gives name validName _ _ name-gives (λ v b. give-gives _ (c, v) (and-in _ _ a b))))
 
 flaggedOk : Bool × (Name × List Name) → Bool
 flaggedOk x = okVersion (x .1)
 
 specVersion-gives : Gives specVersion flaggedOk
 unfolding specVersion flaggedOk okVersion
-specVersion-gives = bind-gives (ahead (key "std")) (λ b. true) _ _ (always _) (λ b e. bind-gives name validName _ _ name-gives (λ v a. bind-gives requirements (every validName) _ _ req-gives (λ rs c. give-gives _ (b, (v, rs)) (and-in _ _ a c))))
+specVersion-gives = bind-gives (ahead (key "std")) (λ b. true) _ _ (always _)
+    (λ b e. bind-gives name validName _ _ name-gives
+    (λ v a. bind-gives requirements (every validName) _ _ req-gives (λ rs c. give-gives _ (b, (v, rs)) (and-in _ _ a c))))
 
 -- the names of an adding command are valid
 unfoldable pub validMember : Name × Option Name → Bool
@@ -202,22 +215,33 @@ validSaid OUT = true
 
 spec-gives : Gives add-spec validSaid
 unfolding add-spec validSaid flaggedOk
-spec-gives = bind-gives name validName _ _ name-gives (λ c a. then-gives (want (key "provides")) _ _ (bind-gives (namesUpTo semicolon) (every validName) _ _ (upTo-gives semicolon) (λ ps b.
-    bind-gives (listOf semicolon specVersion) (every flaggedOk) _ _ (list-gives semicolon specVersion flaggedOk specVersion-gives) (λ vs d. then-gives (want (key "end")) _ _
-    (bind-gives (theOne (standards vs)) (λ s. true) _ _ (always _) (λ s e. give-gives _ _ (and-in _ _ a (and-in _ _ b (every-map (λ x. x .1) okVersion vs ∙ d)))))))))
+spec-gives = bind-gives name validName _ _ name-gives
+    (λ c a. then-gives (want (key "provides")) _ _
+    (bind-gives (namesUpTo semicolon) (every validName) _ _ (upTo-gives semicolon) (λ ps b.
+    bind-gives (listOf semicolon specVersion) (every flaggedOk) _ _
+    (list-gives semicolon specVersion flaggedOk specVersion-gives) (λ vs d. then-gives (want (key "end")) _ _
+    (bind-gives (theOne (standards vs)) (λ s. true) _ _ (always _)
+    (λ s e. give-gives _ _ (and-in _ _ a (and-in _ _ b (every-map (λ x. x .1) okVersion vs ∙ d)))))))))
 
 modVersion-gives : Gives modVersion okMod
 unfolding modVersion okMod
-modVersion-gives = bind-gives name validName _ _ name-gives (λ v a. then-gives (want (key "impl")) _ _ (bind-gives imp validImplementation _ _ impl-gives (λ i b. give-gives _ (v, i) (and-in _ _ a b))))
+modVersion-gives = bind-gives name validName _ _ name-gives
+    (λ v a. then-gives (want (key "impl")) _ _
+    (bind-gives imp validImplementation _ _ impl-gives (λ i b. give-gives _ (v, i) (and-in _ _ a b))))
 
 module-gives : Gives add-mod validSaid
 unfolding add-mod validSaid
-module-gives = bind-gives name validName _ _ name-gives (λ c a. then-gives (want semicolon) _ _ (bind-gives (listOf semicolon modVersion) (every okMod) _ _ (list-gives semicolon modVersion okMod modVersion-gives) (λ is b. then-gives (want (key "end")) _ _ (give-gives _ _ (and-in _ _ a b)))))
+module-gives = bind-gives name validName _ _ name-gives
+    (λ c a. then-gives (want semicolon) _ _
+    (bind-gives (listOf semicolon modVersion) (every okMod) _ _ (list-gives semicolon modVersion okMod modVersion-gives)
+    (λ is b. then-gives (want (key "end")) _ _ (give-gives _ _ (and-in _ _ a b)))))
 
 compo-gives : Gives compo validMember
 unfolding compo validMember if-there
 compo-gives = bind-gives name validName _ _ name-gives (λ c a. bind-gives (ahead point) (λ b. true) _ _ (always _) (λ d e.
-    bind-gives (when d none _) (λ v. if-there v validName) _ _ (when-gives (λ v. if-there v validName) d none _ refl (bind-gives name validName _ _ name-gives (λ w b. give-gives _ (some w) b)))
+    bind-gives (when d none _) (λ v. if-there v validName) _ _
+    (when-gives (λ v. if-there v validName) d none _ refl
+    (bind-gives name validName _ _ name-gives (λ w b. give-gives _ (some w) b)))
     (λ v b. give-gives _ (c, v) (and-in _ _ a b))))
 
 compos-gives : Gives compos (every validMember)
@@ -226,21 +250,30 @@ compos-gives = list-gives comma compo validMember compo-gives
 
 sysVersion-gives : Gives sysVersion validSys
 unfolding sysVersion validSys
-sysVersion-gives = bind-gives name validName _ _ name-gives (λ v a. then-gives (want equals) _ _ (bind-gives (compos) (every validMember) _ _ compos-gives (λ ms b. give-gives _ (v, ms) (and-in _ _ a b))))
+sysVersion-gives = bind-gives name validName _ _ name-gives
+    (λ v a. then-gives (want equals) _ _
+    (bind-gives (compos) (every validMember) _ _ compos-gives (λ ms b. give-gives _ (v, ms) (and-in _ _ a b))))
 
 sys-gives : Gives add-sys validSaid
 unfolding add-sys validSaid
-sys-gives = bind-gives name validName _ _ name-gives (λ c a. then-gives (want (key "use")) _ _ (bind-gives names (every validName) _ _ names-gives (λ us b. then-gives (want semicolon) _ _
-    (bind-gives (listOf semicolon sysVersion) (every validSys) _ _ (list-gives semicolon sysVersion validSys sysVersion-gives) (λ ks d. then-gives (want (key "end")) _ _ (give-gives _ _ (and-in _ _ a (and-in _ _ b d))))))))
+sys-gives = bind-gives name validName _ _ name-gives
+    (λ c a. then-gives (want (key "use")) _ _
+    (bind-gives names (every validName) _ _ names-gives (λ us b. then-gives (want semicolon) _ _
+    (bind-gives (listOf semicolon sysVersion) (every validSys) _ _ (list-gives semicolon sysVersion validSys sysVersion-gives)
+    (λ ks d. then-gives (want (key "end")) _ _ (give-gives _ _ (and-in _ _ a (and-in _ _ b d))))))))
 
 modvar-gives : Gives add-modvar validSaid
 unfolding add-modvar validSaid validPair
-modvar-gives = bind-gives pair validPair _ _ pair-gives (λ p a. bind-gives requirements (every validName) _ _ req-gives (λ rs b. then-gives (want (key "impl")) _ _ (bind-gives imp validImplementation _ _ impl-gives (λ i d.
+modvar-gives = bind-gives pair validPair _ _ pair-gives
+    (λ p a. bind-gives requirements (every validName) _ _ req-gives
+    (λ rs b. then-gives (want (key "impl")) _ _ (bind-gives imp validImplementation _ _ impl-gives (λ i d.
     give-gives _ _ (and-in _ _ (and-l _ _ a) (and-in _ _ (and-r _ _ a) (and-in _ _ b d)))))))
 
 sysvar-gives : Gives add-sysvar validSaid
 unfolding add-sysvar validSaid validPair
-sysvar-gives = bind-gives pair validPair _ _ pair-gives (λ p a. then-gives (want equals) _ _ (bind-gives (compos) (every validMember) _ _ compos-gives (λ ms b. then-gives (want (key "end")) _ _
+sysvar-gives = bind-gives pair validPair _ _ pair-gives
+    (λ p a. then-gives (want equals) _ _
+    (bind-gives (compos) (every validMember) _ _ compos-gives (λ ms b. then-gives (want (key "end")) _ _
     (give-gives _ _ (and-in _ _ (and-l _ _ a) (and-in _ _ (and-r _ _ a) b))))))
 
 one-gives : (f : Name → Said) → ((c : Name) → validSaid (f c) ≡ true) → Gives (ofOne f) validSaid
@@ -261,9 +294,55 @@ AllGive (x ∷ xs) = Gives (x .1) validSaid × AllGive xs
 
 grammar-gives : AllGive grammar
 unfolding grammar validSaid
-grammar-gives =
-    (spec-gives, (module-gives, (sys-gives, (one-gives DELSPEC (λ c. refl), (one-gives DELMOD (λ c. refl), (one-gives DELSYS (λ c. refl), (modvar-gives, (sysvar-gives, (two-gives DELMODVAR (λ c v. refl), (two-gives DELSYSVAR (λ c v. refl),
-    (one-gives SUPPLIES (λ c. refl), (two-gives NEEDS (λ c v. refl), (choice-gives, (one-gives STANDARD (λ c. refl), (give-gives _ UNDEFINED refl, (give-gives _ UNUSED refl, (one-gives WHEREUSED (λ c. refl), (two-gives PARTS (λ c v. refl), (give-gives _ OUT refl, tt)))))))))))))))))))
+grammar-gives = (
+  spec-gives,
+  (
+    module-gives,
+    (
+      sys-gives,
+      (
+        one-gives DELSPEC (λ c. refl),
+        (
+          one-gives DELMOD (λ c. refl),
+          (
+            one-gives DELSYS (λ c. refl),
+            (
+              modvar-gives,
+              (
+                sysvar-gives,
+                (
+                  two-gives DELMODVAR (λ c v. refl),
+                  (
+                    two-gives DELSYSVAR (λ c v. refl),
+                    (
+                      one-gives SUPPLIES (λ c. refl),
+                      (
+                        two-gives NEEDS (λ c v. refl),
+                        (
+                          choice-gives,
+                          (
+                            one-gives STANDARD (λ c. refl),
+                            (
+                              give-gives _ UNDEFINED refl,
+                              (
+                                give-gives _ UNUSED refl,
+                                (one-gives WHEREUSED (λ c. refl), (two-gives PARTS (λ c v. refl), (give-gives _ OUT refl, tt))),
+                              ),
+                            ),
+                          ),
+                        ),
+                      ),
+                    ),
+                  ),
+                ),
+              ),
+            ),
+          ),
+        ),
+      ),
+    ),
+  ),
+)
 
 abbrev pub ValidRead : Read → Type 0
 ValidRead (said k u) = validSaid k ≡ true
@@ -278,7 +357,8 @@ read-valid (some x) l = l
 byWord-valid : (g : List (Text × Reader Said)) → AllGive g → (w t : Text) → ValidRead (byWord g w t)
 unfolding byWord
 byWord-valid [] e w t = tt
-byWord-valid (x ∷ xs) e w t = by-test ValidRead (same w (x .0)) _ _ (λ q. read-valid (x .1 t) (e .0 .at t)) (byWord-valid xs (e .1) w t)
+byWord-valid (x ∷ xs) e w t = by-test ValidRead (same w (x .0)) _ _ (λ q. read-valid (x .1 t) (e .0 .at t))
+    (byWord-valid xs (e .1) w t)
 
 of-valid : (n : Next) → ValidRead (commandOf n)
 unfolding commandOf

@@ -74,7 +74,8 @@ unfolding specNames okVersion
 spec-valid c ps vs hc hp hv = record {
   comps = one-valid c hc;
   vers = firsts-valid okVersion vs (λ x e. and-l _ _ e) hv;
-  facs = every-append validName ps _ hp (every-joined validName (λ x. x .1) vs (every-imp okVersion _ vs (λ x e. and-r _ _ e) hv));
+  facs = every-append validName ps _ hp (every-joined validName (λ x. x .1) vs
+      (every-imp okVersion _ vs (λ x e. and-r _ _ e) hv));
   impls = every-none _;
 }
 
@@ -159,7 +160,8 @@ Puts t k = puts (held (t .comps)) (held (t .vers)) (held (t .facs)) (held (t .im
 enter-held : (t : Table) (ws : List Name) (n : ℕ) → held t n ≡ true → held (enter t ws) n ≡ true
 unfolding held
 enter-held t ws n h =
-    let q = enter-longer t ws in let l = ap length (q .1) ∙ length-append t (q .0) in let k = <?-out _ _ h in <?-in _ _ (omega arith)
+    let q = enter-longer t ws in let l = ap length (q .1) ∙ length-append t (q .0) in let k = <?-out _ _ h in
+    <?-in _ _ (omega arith)
 
 pub entered-held : (t m : Tables) (b : Book) → NumbersHeld t b → NumbersHeld (entered t m) b
 unfolding entered
@@ -173,7 +175,8 @@ spec-puts t c ps vs s =
     let tf = enter (t .facs) (ps ++ joined (map (λ x. x .1) vs)) in
     let inF = names-in (t .facs) (ps ++ joined (map (λ x. x .1) vs)) in
     and-in _ _ (number-held tc c (in-head tc c [] (names-in _ _))) (and-in _ _ (numbers-held tf ps (in-l tf ps _ inF))
-    (every-map _ _ vs ∙ every-imp (specIn tv tf) _ vs (λ x e. one-put tv tf x e) (spec-in tv tf vs (names-in _ _) (in-r tf ps _ inF))))
+    (every-map _ _ vs ∙ every-imp (specIn tv tf) _ vs (λ x e. one-put tv tf x e)
+    (spec-in tv tf vs (names-in _ _) (in-r tf ps _ inF))))
   where
     one-put : (tv tf : Table) (x : Name × List Name) → specIn tv tf x ≡ true
         → (held tv (number tv (x .0)) & every (held tf) (map (number tf) (x .1))) ≡ true
@@ -185,7 +188,8 @@ unfolding every seconds inside
 seconds-held tv ti [] h = refl
 seconds-held tv ti (x ∷ xs) h = and-in _ _ (number-held ti (x .1) (and-l _ _ h)) (seconds-held tv ti xs (and-r _ _ h))
 
-pub mod-puts : (t : Tables) (c : Name) (is : List (Name × Name)) → Puts (entered t (modNames c is)) (modNumbered (entered t (modNames c is)) c is)
+pub mod-puts : (t : Tables) (c : Name) (is : List (Name × Name))
+    → Puts (entered t (modNames c is)) (modNumbered (entered t (modNames c is)) c is)
 unfolding puts modNumbered entered modNames
 mod-puts t c is = seconds-held (enter (t .vers) (map (λ x. x .0) is)) (enter (t .impls) (map (λ x. x .1) is)) is (names-in _ _)
 

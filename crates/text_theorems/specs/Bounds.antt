@@ -14,8 +14,8 @@ use Rattle.text.specs.Bytes.{Text}
 use Rattle.text.specs.Language.{Read, Reader, _>>=_, ahead, command, commandOf, give, listIn, listOf, over, said, when, wrong}
 use Rattle.text.specs.Session.{State, afterwards, carry, decimal, digits, lines, onRead, sessionFrom}
 use Rattle.text.specs.Tokens.{Token, nextToken, skip, skipped, tokenAt}
-use Rattle.text_theorems.specs.Eats.{Eats, LeftR, ahead-eats, command-left, listIn-eats}
 use Rattle.text_theorems.specs.Left.{Left, LeftO, left-length}
+use Rattle.text_theorems.specs.Takes.{LeftR, Takes, ahead-takes, command-left, listIn-takes}
 
 -- ---- the bound on a list bounds nothing
 
@@ -38,10 +38,10 @@ unfolding andThen
 bind-same t none n f g l h = refl
 bind-same t (some x) n f g l h = h (x .0) (x .1) l
 
-list-of-nothing : {A : Type 0} (n : ℕ) (k : Token) (p : Reader A) → Eats 1 p → listIn n k p [] ≡ none
-list-of-nothing n k p e = none-of-nothing (listIn n k p []) (listIn-eats n k p e .at [])
+list-of-nothing : {A : Type 0} (n : ℕ) (k : Token) (p : Reader A) → Takes 1 p → listIn n k p [] ≡ none
+list-of-nothing n k p e = none-of-nothing (listIn n k p []) (listIn-takes n k p e .at [])
 
-pub list-enough : {A : Type 0} (k : Token) (p : Reader A) → Eats 1 p → (n m : ℕ) (t : Text) → length t ≤ n → length t ≤ m
+pub list-enough : {A : Type 0} (k : Token) (p : Reader A) → Takes 1 p → (n m : ℕ) (t : Text) → length t ≤ n → length t ≤ m
     → listIn n k p t ≡ listIn m k p t
 unfolding listIn _>>=_
 list-enough k p e zero zero t a b = refl
@@ -49,7 +49,7 @@ list-enough k p e zero (suc m) t a b = sym (ap (λ (z : Text). listIn (suc m) k 
 list-enough k p e (suc n) zero t a b = ap (λ (z : Text). listIn (suc n) k p z) (nothing t b) ∙ list-of-nothing (suc n) k p e
 list-enough k p e (suc n) (suc m) t a b =
     bind-same t (p t) 1 _ _ (e .at t) (λ x u l. let i = left-length l in
-    bind-same u (ahead k u) 0 _ _ (ahead-eats k .at u) (λ on v j. let i′ = left-length j in
+    bind-same u (ahead k u) 0 _ _ (ahead-takes k .at u) (λ on v j. let i′ = left-length j in
     ap (λ (o : Option _). andThen o (λ y. give (x ∷ y .0) (y .1)))
     (when-same on [] (listIn n k p) (listIn m k p) v (list-enough k p e n m v (omega arith) (omega arith)))))
 
@@ -78,13 +78,13 @@ session-enough (suc n) (suc m) i s t a b = read-same _ _ i s t (command t) (comm
 
 -- ---- the laws without a bound, for code to follow
 
-pub list-step : {A : Type 0} (k : Token) (p : Reader A) → Eats 1 p → (t : Text) → listOf k p t
+pub list-step : {A : Type 0} (k : Token) (p : Reader A) → Takes 1 p → (t : Text) → listOf k p t
     ≡ (p >>= (λ x. ahead k >>= (λ on. when on [] (listOf k p) >>= (λ xs. give (x ∷ xs))))) t
 unfolding listOf listIn _>>=_
 list-step k p e t =
     list-enough k p e (length t) (suc (length t)) t (le-refl _) (omega arith)
     ∙ bind-same t (p t) 1 _ _ (e .at t) (λ x u l. let i = left-length l in
-    bind-same u (ahead k u) 0 _ _ (ahead-eats k .at u) (λ on v j. let i′ = left-length j in
+    bind-same u (ahead k u) 0 _ _ (ahead-takes k .at u) (λ on v j. let i′ = left-length j in
     ap (λ (o : Option _). andThen o (λ y. give (x ∷ y .0) (y .1)))
     (when-same on [] (listIn (length t) k p) (λ w. listIn (length w) k p w) v
     (list-enough k p e (length t) (length v) v (omega arith) (le-refl _)))))

@@ -25,7 +25,7 @@ pub mod Twins
 pub mod Tells
 pub mod Handed
 pub mod Left
-pub mod Eats
+pub mod Takes
 pub mod Bounds
 pub mod LentSlice
 pub mod ValidNames

@@ -16,9 +16,9 @@ use Rattle.text.specs.Language.{Reader, _>>=_, _>>_, ahead, aheadOf, equals, gi
 use Rattle.text.specs.Language.{want, wantOf, when}
 use Rattle.text.specs.Tokens.{Token, closing, isToken, nextToken, past, run, skip, skipped, token, tokenAt, word}
 use Rattle.text.specs.Written.{parted}
-use Rattle.text_theorems.specs.TextLaws.{length-map}
+use Rattle.text_theorems.specs.TextLaws.{length-map, no-more}
 use base.Logic.{sep}
-use types.Run.{no-more, stop}
+use types.Run.{stop}
 
 -- ---- runs
 

@@ -11,7 +11,7 @@ use Rattle.model.specs.Maps.{has, if-there, optionMap, orElse}
 use Rattle.sets.specs.TestLaws.{==-out, ==-same, and-in, and-l, and-r, clash, imp-cong, or-l, or-out, or-r}
 use Rattle.sets.specs.Tests.{_&_, _⇒_, if_then_else_}
 use Rattle.text.specs.Bytes.{Text, among, same}
-use Rattle.text.specs.Language.{Name}
+use Rattle.text.specs.Language.{Name, Read, Reader, Said, byWord, readAs, wrong}
 use Rattle.text.specs.Tables.{Table, joined}
 
 -- ---- texts
@@ -163,3 +163,18 @@ among-names-in f (x ∷ xs) n e =
           ∙ same-refl (f n))
       | inr q ↦ or-r _ _ (among-names-in f xs n q)
     ]
+
+-- ---- the commands of the language
+
+-- a fact of the reader of each command
+infixr 20 _also_
+pub data Each (P : Reader Said → Type 0) : List (Text × Reader Said) → Type 0 where
+  no-more : Each P []
+  _also_ : {x : Text × Reader Said} {xs : List (Text × Reader Said)} → P (x .1) → Each P xs → Each P (x ∷ xs)
+
+-- what holds of all that these readers read, and of no command, holds of what is read behind a first word
+pub by-word : (Q : Read → Type 0) (t : Text) → Q wrong → (P : Reader Said → Type 0) → ((p : Reader Said) → P p → Q (readAs (p t)))
+    → (g : List (Text × Reader Said)) → Each P g → (w : Text) → Q (byWord g w t)
+unfolding byWord
+by-word Q t w₀ P h g no-more w = w₀
+by-word Q t w₀ P h g (_also_ {x = x} {xs = xs} p ps) w = by-test Q (same w (x .0)) _ _ (λ e. h (x .1) p) (by-word Q t w₀ P h xs ps w)

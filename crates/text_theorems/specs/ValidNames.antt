@@ -13,14 +13,14 @@ use Rattle.sets.specs.Tests.{_&_, _==_, ~_}
 use Rattle.text.specs.Bytes.{Text, alnum, bytes, implByte, isMark, nameByte, nameWord, same, short, validImplementation, validName}
 use Rattle.text.specs.Language.{CHOICE, DELMOD, DELMODVAR, DELSPEC, DELSYS, DELSYSVAR, MOD, MODVAR, NEEDS, Name, NamedMembers, OUT}
 use Rattle.text.specs.Language.{PARTS, Read, Reader, SPEC, STANDARD, SUPPLIES, SYS, SYSVAR, Said, UNDEFINED, UNUSED, WHEREUSED}
-use Rattle.text.specs.Language.{_>>=_, _>>_, add-mod, add-modvar, add-spec, add-sys, add-sysvar, ahead, byWord, choice, comma}
-use Rattle.text.specs.Language.{command, commandOf, compo, compos, equals, give, grammar, imp, key, listIn, listOf, modVersion}
-use Rattle.text.specs.Language.{name, nameOf, names, namesUpTo, ofOne, ofPair, over, pair, point, quotedOf, readAs, requirements}
-use Rattle.text.specs.Language.{said, semicolon, specVersion, standards, sysVersion, theOne, want, when, wrong}
+use Rattle.text.specs.Language.{_>>=_, _>>_, add-mod, add-modvar, add-spec, add-sys, add-sysvar, ahead, choice, comma, command}
+use Rattle.text.specs.Language.{commandOf, compo, compos, equals, give, grammar, imp, key, listIn, listOf, modVersion, name, nameOf}
+use Rattle.text.specs.Language.{names, namesUpTo, ofOne, ofPair, over, pair, point, quotedOf, readAs, requirements, said, semicolon}
+use Rattle.text.specs.Language.{specVersion, standards, sysVersion, theOne, want, when, wrong}
 use Rattle.text.specs.SameByNames.{at}
 use Rattle.text.specs.Tokens.{Next, Token, bad, closing, end, mark, nextToken, quoted, run, skip, skipped, token, tokenAt, word}
 use Rattle.text_theorems.specs.ReadsBack.{okMod, okVersion}
-use Rattle.text_theorems.specs.TextLaws.{by-test, every-cons, every-map, every-none}
+use Rattle.text_theorems.specs.TextLaws.{Each, _also_, by-test, by-word, every-cons, every-map, every-none, no-more}
 
 run-every : (f : ℕ → Bool) (t : Text) → every f (run f t) ≡ true
 unfolding run every
@@ -288,61 +288,17 @@ choice-gives : Gives choice validSaid
 unfolding choice validSaid
 choice-gives = bind-gives (namesUpTo (key "end")) (every validName) _ _ (upTo-gives _) (λ fs a. give-gives _ _ refl)
 
-abbrev AllGive : List (Text × Reader Said) → Type 0
-AllGive [] = Unit {0}
-AllGive (x ∷ xs) = Gives (x .1) validSaid × AllGive xs
+abbrev GivesValid : Reader Said → Type 0
+GivesValid p = Gives p validSaid
 
-grammar-gives : AllGive grammar
+grammar-gives : Each GivesValid grammar
 unfolding grammar validSaid
-grammar-gives = (
-  spec-gives,
-  (
-    module-gives,
-    (
-      sys-gives,
-      (
-        one-gives DELSPEC (λ c. refl),
-        (
-          one-gives DELMOD (λ c. refl),
-          (
-            one-gives DELSYS (λ c. refl),
-            (
-              modvar-gives,
-              (
-                sysvar-gives,
-                (
-                  two-gives DELMODVAR (λ c v. refl),
-                  (
-                    two-gives DELSYSVAR (λ c v. refl),
-                    (
-                      one-gives SUPPLIES (λ c. refl),
-                      (
-                        two-gives NEEDS (λ c v. refl),
-                        (
-                          choice-gives,
-                          (
-                            one-gives STANDARD (λ c. refl),
-                            (
-                              give-gives _ UNDEFINED refl,
-                              (
-                                give-gives _ UNUSED refl,
-                                (one-gives WHEREUSED (λ c. refl), (two-gives PARTS (λ c v. refl), (give-gives _ OUT refl, tt))),
-                              ),
-                            ),
-                          ),
-                        ),
-                      ),
-                    ),
-                  ),
-                ),
-              ),
-            ),
-          ),
-        ),
-      ),
-    ),
-  ),
-)
+grammar-gives =
+    spec-gives also module-gives also sys-gives also one-gives DELSPEC (λ c. refl) also one-gives DELMOD (λ c. refl) also
+    one-gives DELSYS (λ c. refl) also modvar-gives also sysvar-gives also two-gives DELMODVAR (λ c v. refl) also
+    two-gives DELSYSVAR (λ c v. refl) also one-gives SUPPLIES (λ c. refl) also two-gives NEEDS (λ c v. refl) also choice-gives also
+    one-gives STANDARD (λ c. refl) also give-gives _ UNDEFINED refl also give-gives _ UNUSED refl also
+    one-gives WHEREUSED (λ c. refl) also two-gives PARTS (λ c v. refl) also give-gives _ OUT refl also no-more
 
 abbrev pub ValidRead : Read → Type 0
 ValidRead (said k u) = validSaid k ≡ true
@@ -354,15 +310,9 @@ unfolding readAs
 read-valid none l = tt
 read-valid (some x) l = l
 
-byWord-valid : (g : List (Text × Reader Said)) → AllGive g → (w t : Text) → ValidRead (byWord g w t)
-unfolding byWord
-byWord-valid [] e w t = tt
-byWord-valid (x ∷ xs) e w t = by-test ValidRead (same w (x .0)) _ _ (λ q. read-valid (x .1 t) (e .0 .at t))
-    (byWord-valid xs (e .1) w t)
-
 of-valid : (n : Next) → ValidRead (commandOf n)
 unfolding commandOf
-of-valid (token (word w) u) = by-test ValidRead (same w (bytes "quit")) _ _ (λ q. tt) (byWord-valid grammar grammar-gives w u)
+of-valid (token (word w) u) = by-test ValidRead (same w (bytes "quit")) _ _ (λ q. tt) (by-word ValidRead u tt GivesValid (λ p e. read-valid (p u) (e .at u)) grammar grammar-gives w)
 of-valid (token (quoted w) u) = tt
 of-valid (token (mark c) u) = tt
 of-valid end = tt

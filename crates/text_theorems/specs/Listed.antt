@@ -178,7 +178,7 @@ beside-here g h (x ∷ xs) n e k =
           (λ i p. k i (or-r _ _ p))
     ]
 
-module _ (f g : ℕ → ℕ) (L : ℕ) (Use : ℕ → Type 0) (R : Renaming f g L Use) (l : List ℕ) (test : ℕ → Bool) (k : Lists l test)
+module _ {f g : ℕ → ℕ} {L : ℕ} {Use : ℕ → Type 0} (R : Renaming f g L Use) (l : List ℕ) {test : ℕ → Bool} (k : Lists l test)
     (used : (n : ℕ) → test n ≡ true → Use n) where
   use-of : (n : ℕ) → elem n l ≡ true → Use n
   use-of n e = used n (sym (k .each n) ∙ e)

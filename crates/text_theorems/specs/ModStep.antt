@@ -108,16 +108,16 @@ module _ (b : Book) (g : Good b) (re : Renumbering (b .specs) (b .modules)) wher
     unfolding answer questions modK bm inLimits eachBelow isModule isSystem isSome exactly
     mod-yes = no-no
         (yes-all (and-in _ _ (<?-in _ _ (re .ofC .small c modSpec)) (and-in _ _
-        (ap (every (λ x. x <? versions)) (firsts-map gv _ lv) ∙ new-small fv gv versions (UsedV S) (re .ofV) lv _ kv modV)
+        (ap (every (λ x. x <? versions)) (firsts-map gv _ lv) ∙ new-small (re .ofV) lv kv modV)
         (ap (every (λ x. x <? implementations)) (seconds-map gv _ lv)
         ∙ every-of _ (λ v. gi (im v)) lv (λ v e. <?-in _ _ (re .ofI .small (im v) (modI v (sym (kv .each v) ∙ e)))))))
         (yes-all (nonEmpty-map _ lv (lists-nonEmpty lv _ kv (standard S c) (g .b2 .mod-covers c (standard S c) there
         ∙ g .b1 .std-in c modSpec)))
-        (yes-all (ap once (firsts-map gv _ lv) ∙ new-once fv gv versions (UsedV S) (re .ofV) lv _ kv modV)
+        (yes-all (ap once (firsts-map gv _ lv) ∙ new-once (re .ofV) lv kv modV)
         (yes-all (specified′ b re (gc c) ∙ ap (specified S) back-c ∙ modSpec)
         (yes-all (is-undefined (only l M′) (λ c. none) (gc c) (ap isSome (only-out l M′ (gc c) fresh)) refl)
         (yes-all (all-in _ _ (λ v k. iff-in _ _ (ap (elem v) (firsts-map gv _ lv)
-        ∙ new-each fv gv versions (UsedV S) (re .ofV) lv _ kv modV v ∙ g .b2 .mod-covers c (fv v) there
+        ∙ new-each (re .ofV) lv kv modV v ∙ g .b2 .mod-covers c (fv v) there
         ∙ ap (λ (z : ℕ). hasVersion S z (fv v)) (sym back-c) ∙ sym (hasVersion′ b re (gc c) v))))
         none-left))))))
 
@@ -127,10 +127,9 @@ module _ (b : Book) (g : Good b) (re : Renumbering (b .specs) (b .modules)) wher
         let at : implementation M c (fv v) ≡ i (fv v) = unfold implementation in andThen-in _ _ i e in
         elim (bool? (isSome (implementation M c (fv v)))) [
           | inl h ↦ (let q = isSome-out _ h in
-              new-beside fv gv versions (UsedV S) (re .ofV) lv _ kv modV (λ v. gi (im v)) v h
+              new-beside (re .ofV) lv kv modV (λ v. gi (im v)) v h
               ∙ ap (λ (z : ℕ). some (gi z)) (ki (fv v) (q .0) (q .1)) ∙ sym (ap (optionMap gi) (sym at ∙ q .1)))
-          | inr h ↦ new-beside-no fv gv versions (UsedV S) (re .ofV) lv _ kv modV (λ v. gi (im v)) v h
-              ∙ sym (ap (optionMap gi) (sym at ∙ isSome-no _ h))
+          | inr h ↦ new-beside-no (re .ofV) lv kv modV (λ v. gi (im v)) v h ∙ sym (ap (optionMap gi) (sym at ∙ isSome-no _ h))
         ]
 
     pub mod-after : after (bm l) (modK c ls) ≡ bm (gc c ∷ l)

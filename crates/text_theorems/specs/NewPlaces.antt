@@ -74,7 +74,7 @@ module _ (t T : Table) (L : ℕ) (Use : ℕ → Type 0) (ot : Once t) (aT : apar
       has-in _ _ (new t T n) (ap (place T) (sym a) ∙ at-new n k) (h _ ∙ ap P (renaming .back n k) ∙ q .2))
 
 -- two numbers are equal, in either table
-pub eq-through : (f g : ℕ → ℕ) (L : ℕ) (Use : ℕ → Type 0) → Renaming f g L Use → (m d : ℕ) → Use d → (m == g d) ≡ (f m == d)
-eq-through f g L Use R m d u = iff→≡ _ _
+pub eq-through : {f g : ℕ → ℕ} {L : ℕ} {Use : ℕ → Type 0} → Renaming f g L Use → (m d : ℕ) → Use d → (m == g d) ≡ (f m == d)
+eq-through {f} {g} {Use = Use} R m d u = iff→≡ _ _
     (λ e. ==-in _ _ (ap f (==-out _ _ e) ∙ R .back d u))
     (λ e. ==-in _ _ (sym (R .forth m (subst Use (sym (==-out _ _ e)) u)) ∙ ap g (==-out _ _ e)))

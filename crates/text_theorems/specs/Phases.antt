@@ -59,14 +59,14 @@ phase T gc bk mk Can h (one-more {l = l} {c = c} {cs = cs} k r) =
     (subst (λ (z : Book). Plan T z (map mk cs) (bk (pushed gc cs (gc c ∷ l)))) (sym (q .gives)) (phase T gc bk mk Can h r))
 
 -- a list without repetition goes in
-pub list-fine : (fc gc : ℕ → ℕ) (L : ℕ) (Use : ℕ → Type 0) → Renaming fc gc L Use → (test : ℕ → Bool)
+pub list-fine : {fc gc : ℕ → ℕ} {L : ℕ} {Use : ℕ → Type 0} → Renaming fc gc L Use → (test : ℕ → Bool)
     → ((n : ℕ) → test n ≡ true → Use n) → (cs l : List ℕ) → once cs ≡ true
     → ((n : ℕ) → elem n cs ≡ true → (test n ≡ true) × (elem (gc n) l ≡ false))
     → Fine gc (λ l c. (test c ≡ true) × (elem (gc c) l ≡ false)) l cs
 unfolding once elem
-list-fine fc gc L Use R test u [] l o h = none-left
-list-fine fc gc L Use R test u (c ∷ cs) l o h =
-    one-more (h c (or-l _ _ (==-same c))) (list-fine fc gc L Use R test u cs (gc c ∷ l) (and-r _ _ o) (λ n e. (
+list-fine R test u [] l o h = none-left
+list-fine {fc} {gc} R test u (c ∷ cs) l o h =
+    one-more (h c (or-l _ _ (==-same c))) (list-fine R test u cs (gc c ∷ l) (and-r _ _ o) (λ n e. (
       h n (or-r _ _ e) .0,
       or-false _ _ (==-not (gc n) (gc c) (λ z.
           clash {A = ⊥} (subst (λ (k : ℕ). elem k cs ≡ true) (sym (R .back n (u n (h n (or-r _ _ e) .0))) ∙ ap fc z

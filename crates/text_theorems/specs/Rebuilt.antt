@@ -31,7 +31,7 @@ use Rattle.text_theorems.specs.Numbered.{nMod, nSpec, nSys}
 use Rattle.text_theorems.specs.Order.{Can, systems-all, systems-fine}
 use Rattle.text_theorems.specs.Phases.{Step, list-fine, one-mark, phase, pushed, pushed-in}
 use Rattle.text_theorems.specs.ReadsBack.{Writable, aMod, aSpec, aSys, okMember, okMod, okSys, okVersion}
-use Rattle.text_theorems.specs.Renamed.{Renumbering, UsedC}
+use Rattle.text_theorems.specs.Renamed.{Renumbering}
 use Rattle.text_theorems.specs.Renumbered.{isModule′, isSystem′, newModules, newSpecs, newSystems, only-all, only-none}
 use Rattle.text_theorems.specs.Renumbered.{specified′}
 use Rattle.text_theorems.specs.Runs.{Plan, plan-append, plan-runs, runs-length, runs-text}
@@ -334,13 +334,13 @@ module _ (b : Book) (t : Tables) (g : Good b) (nm : Named (record { book = b; ta
   specs-plan = subst (λ (x : Book). Plan U x (map (specOf b t) cs) (BM [])) start
       (subst (Plan U (BS []) (map (specOf b t) cs)) specs-done
       (phase U gc BS (specOf b t) _ spec-step
-      (list-fine fc gc components (UsedC S) (re .ofC) (specified S) (λ n e. e) cs [] (cs-lists b t g nm .one)
+      (list-fine (re .ofC) (specified S) (λ n e. e) cs [] (cs-lists b t g nm .one)
       (λ n e. (sym (cs-lists b t g nm .each n) ∙ e, (unfold elem in refl))))))
 
   modules-plan : Plan U (BM []) (map (modOf b t) ms) (BY [])
   modules-plan = subst (Plan U (BM []) (map (modOf b t) ms)) modules-done
       (phase U gc BM (modOf b t) _ mod-step
-      (list-fine fc gc components (UsedC S) (re .ofC) (isModule M) (λ n e. g .b2 .mod-spec n e) ms [] (ms-lists b t g nm .one)
+      (list-fine (re .ofC) (isModule M) (λ n e. g .b2 .mod-spec n e) ms [] (ms-lists b t g nm .one)
       (λ n e. (sym (ms-lists b t g nm .each n) ∙ e, (unfold elem in refl)))))
 
   systems-plan : Plan U (BY []) (map (sysOf b t) ss) rebuilt

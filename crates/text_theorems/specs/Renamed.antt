@@ -28,7 +28,7 @@ pub record Renaming (f g : ℕ → ℕ) (L : ℕ) (Use : ℕ → Type 0) : Type 
   pub forth : (m : ℕ) → Use (f m) → g (f m) ≡ m
 
 -- a test over the new numbers, and over the old: where it passes (or fails), the number is used
-module _ (f g : ℕ → ℕ) (L : ℕ) (Use : ℕ → Type 0) (R : Renaming f g L Use) (Q : ℕ → Bool) where
+module _ {f g : ℕ → ℕ} {L : ℕ} {Use : ℕ → Type 0} (R : Renaming f g L Use) (Q : ℕ → Bool) where
   pub any-through : ((n : ℕ) → Q n ≡ true → Use n × (n < L)) → any L (λ m. Q (f m)) ≡ any L Q
   any-through h = iff→≡ _ _
       (λ t. let q = any-out _ _ t in any-in L Q (f (q .0)) (h (f (q .0)) (q .2) .1) (q .2))
@@ -115,20 +115,20 @@ module _ (b : Book) (g : Good b) (S₁ : Specs) (Y₁ : Systems) (re : Renumberi
   gf = re .gf
 
   anyC : (Q : ℕ → Bool) → ((n : ℕ) → Q n ≡ true → specified S n ≡ true) → any components (λ m. Q (fc m)) ≡ any components Q
-  anyC Q h = any-through fc gc components (UsedC S) (re .ofC) Q (λ n t. (h n t, g .specLimits .component< n (h n t)))
+  anyC Q h = any-through (re .ofC) Q (λ n t. (h n t, g .specLimits .component< n (h n t)))
 
   allC : (Q : ℕ → Bool) → ((n : ℕ) → Q n ≡ false → specified S n ≡ true) → all components (λ m. Q (fc m)) ≡ all components Q
-  allC Q h = all-through fc gc components (UsedC S) (re .ofC) Q (λ n t. (h n t, g .specLimits .component< n (h n t)))
+  allC Q h = all-through (re .ofC) Q (λ n t. (h n t, g .specLimits .component< n (h n t)))
 
   usedF< : (f : ℕ) → UsedF S f → f < facilities
   usedF< f (providedBy c t) = g .specLimits .provided< c f t
   usedF< f (requiredBy c v t) = g .specLimits .required< c v f t
 
   allF : (Q : ℕ → Bool) → ((n : ℕ) → Q n ≡ false → UsedF S n) → all facilities (λ m. Q (ff m)) ≡ all facilities Q
-  allF Q h = all-through ff gf facilities (UsedF S) (re .ofF) Q (λ n t. (h n t, usedF< n (h n t)))
+  allF Q h = all-through (re .ofF) Q (λ n t. (h n t, usedF< n (h n t)))
 
   anyF : (Q : ℕ → Bool) → ((n : ℕ) → Q n ≡ true → UsedF S n) → any facilities (λ m. Q (ff m)) ≡ any facilities Q
-  anyF Q h = any-through ff gf facilities (UsedF S) (re .ofF) Q (λ n t. (h n t, usedF< n (h n t)))
+  anyF Q h = any-through (re .ofF) Q (λ n t. (h n t, usedF< n (h n t)))
 
   member-spec : (s v c w : ℕ) → member Y s v c ≡ some w → specified S c ≡ true
   member-spec s v c w e = g .b2 .use-spec s c (mem-usable S Y (g .systemLimits) (g .b5) s v c w e .0)
@@ -207,8 +207,7 @@ module _ (b : Book) (g : Good b) (S₁ : Specs) (Y₁ : Systems) (re : Renumberi
   B5-like = each-like _ _ (λ s v y.
       ap₂ _&_ (any-cong components (λ c. is-like s v c y) ∙ anyC (isMember Y (fc s) (fv v)) (λ c t. is-spec (fc s) (fv v) c t))
       (all-cong components (λ c. ap (λ (o : Option ℕ). if-there o (λ w. usable Y₁ s c & hasVersion S₁ c w)) (K .members s v c y)
-      ∙ if-there-map gv _ _
-      ∙ if-there-cong (member Y (fc s) (fv v) (fc c))
+      ∙ if-there-map gv _ _ ∙ if-there-cong (member Y (fc s) (fv v) (fc c))
       (λ w e. ap₂ _&_ (K .uses s c y) (K .vers c (gv w) ∙ ap (hasVersion S (fc c)) (member-back (fc s) (fv v) (fc c) w e))))
       ∙ allC (λ c. if-there (member Y (fc s) (fv v) c) (λ w. usable Y (fc s) c & hasVersion S c w))
       (λ c t. (let q = there-no _ _ t in member-spec (fc s) (fv v) c (q .0) (q .1))))) (g .b5)

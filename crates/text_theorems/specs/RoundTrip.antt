@@ -80,8 +80,7 @@ module _ (b : Book) (t : Tables) (g : Good b) (nm : Named (record { book = b; ta
       (λ n e. let q = at-out _ v _ e in version-specified S n (q .0) (q .1))
   same-facts (Standard c v) = atC b t g nm c _ _ (λ m. atV b t g nm v _ _
       (λ k. ap (λ (x : Bool). x & k == standard (newSpecs b re) m) (specified′ b re m)
-      ∙ and-cong _ (λ e. ap (λ (x : ℕ). k == x) (standard′ m e)
-      ∙ eq-through _ _ _ _ (re .ofV) k _ (versionOf _ (g .b1 .std-in _ e))))
+      ∙ and-cong _ (λ e. ap (λ (x : ℕ). k == x) (standard′ m e) ∙ eq-through (re .ofV) k _ (versionOf _ (g .b1 .std-in _ e))))
       (λ n e. versionOf (re .fc m) (ap (hasVersion S (re .fc m)) (==-out _ _ (and-r _ _ e)) ∙ g .b1 .std-in _ (and-l _ _ e))))
       (λ n e. let q = at-out _ v _ e in and-l _ _ (q .1))
   same-facts (Usable c d) = atC b t g nm c _ _ (λ m. atC b t g nm d _ _ (usable′ b re m) (λ n e. g .b2 .use-spec _ n e))
@@ -97,7 +96,7 @@ module _ (b : Book) (t : Tables) (g : Good b) (nm : Named (record { book = b; ta
   same-facts (Implemented c v i) = atC b t g nm c _ _
       (λ m. atV b t g nm v _ _
       (λ k. atI b t g nm i _ _ (λ j. ap (λ (o : Option ℕ). has o (λ z. j == z)) (implementation′ b re m k) ∙ has-map _ _ _
-      ∙ has-cong _ (λ z e. eq-through _ _ _ _ (re .ofI) j z (implementationOf _ _ e)))
+      ∙ has-cong _ (λ z e. eq-through (re .ofI) j z (implementationOf _ _ e)))
       (λ n e. let q = has-out _ _ e in implementationOf _ _ (q .1 ∙ ap some (sym (==-out _ _ (q .2))))))
       (λ n e. let q = at-out _ i _ e in let r = has-out _ _ (q .1) in versionOf _ (impl-version _ n (r .0) (r .1))))
       (λ n e. let q = at-out _ v _ e in let p = at-out _ i _ (q .1) in let r = has-out _ _ (p .1) in
@@ -106,7 +105,7 @@ module _ (b : Book) (t : Tables) (g : Good b) (nm : Named (record { book = b; ta
       (λ m. atV b t g nm v _ _
       (λ k. atC b t g nm d _ _
       (λ j. atV b t g nm w _ _ (λ x. ap (λ (o : Option ℕ). has o (λ z. x == z)) (member′ b re m k j) ∙ has-map _ _ _
-      ∙ has-cong _ (λ z e. eq-through _ _ _ _ (re .ofV) x z
+      ∙ has-cong _ (λ z e. eq-through (re .ofV) x z
       (versionOf _ (mem-usable S Y (g .systemLimits) (g .b5) _ _ _ z e .1))))
       (λ n e. let q = has-out _ _ e in
       versionOf _ (mem-usable S Y (g .systemLimits) (g .b5) _ _ _ n (q .1 ∙ ap some (sym (==-out _ _ (q .2)))) .1)))

@@ -107,33 +107,30 @@ module _ (b : Book) (g : Good b) (re : Renumbering (b .specs) (b .modules)) wher
     unfolding inLimits specK eachBelow
     spec-small =
         and-in _ _ (<?-in _ _ (re .ofC .small c there))
-        (and-in _ _ (new-small ff gf facilities (UsedF S) (re .ofF) lp _ kp usedP)
-        (and-in _ _ (ap (every (λ x. x <? versions)) (firsts-map gv _ lv)
-        ∙ new-small fv gv versions (UsedV S) (re .ofV) lv _ kv usedV)
+        (and-in _ _ (new-small (re .ofF) lp kp usedP)
+        (and-in _ _ (ap (every (λ x. x <? versions)) (firsts-map gv _ lv) ∙ new-small (re .ofV) lv kv usedV)
         (and-in _ _ (ap (every (every (λ x. x <? facilities))) (seconds-map gv _ lv)
-        ∙ every-of _ _ lv (λ v e. new-small ff gf facilities (UsedF S) (re .ofF) (lq v) _ (kq v) (usedQ v)))
+        ∙ every-of _ _ lv (λ v e. new-small (re .ofF) (lq v) (kq v) (usedQ v)))
         (<?-in _ _ (re .ofV .small _ (versionOf c (g .b1 .std-in c there)))))))
 
     spec-free : every (free (setOf (map gf lp))) (map (λ v. map gf (lq v)) lv) ≡ true
     unfolding free setOf
     spec-free = every-of _ _ lv (λ v e. every-of _ gf (lq v) (λ f q. not-in _
         (let r = sym (kq v .each f) ∙ q in
-        new-each ff gf facilities (UsedF S) (re .ofF) lp _ kp usedP (gf f) ∙ ap (provides S c) (re .ofF .back f (usedQ v f r))
-        ∙ g .b1 .apart c v f r)))
+        new-each (re .ofF) lp kp usedP (gf f) ∙ ap (provides S c) (re .ofF .back f (usedQ v f r)) ∙ g .b1 .apart c v f r)))
 
     pub spec-yes : answer (bs l) (specK c ls) ≡ 0
     unfolding answer questions specK bs specified isSome
     spec-yes = no-no
-        (yes-all (spec-small)
+        (yes-all spec-small
         (yes-all (nonEmpty-map _ lv (lists-nonEmpty lv _ kv _ (g .b1 .std-in c there)))
-        (yes-all (ap once (firsts-map gv _ lv) ∙ new-once fv gv versions (UsedV S) (re .ofV) lv _ kv usedV)
+        (yes-all (ap once (firsts-map gv _ lv) ∙ new-once (re .ofV) lv kv usedV)
         (yes-all (not-in _ (ap isSome (only-out l S′ (gc c) fresh)))
         (yes-all (≤?-in _ _ (subst (λ (n : ℕ). n ≤ 8) (sym (length-map _ lv))
         (le-trans (lists-length versions lv _ kv (λ v e. g .specLimits .version< c v e)) (g .b1 .few c))))
         (yes-all (ap (every (free (setOf (map gf lp)))) (seconds-map gv _ lv) ∙ spec-free)
         (yes-all (ap (elem (gv (standard S c))) (firsts-map gv _ lv)
-        ∙ new-each fv gv versions (UsedV S) (re .ofV) lv _ kv usedV (gv (standard S c)) ∙ ap (hasVersion S c) std-back
-        ∙ g .b1 .std-in c there)
+        ∙ new-each (re .ofV) lv kv usedV (gv (standard S c)) ∙ ap (hasVersion S c) std-back ∙ g .b1 .std-in c there)
         none-left)))))))
 
     req-new : (x : Spec) → S c ≡ some x → (v : ℕ) → optionMap setOf (beside (map (λ v. (gv v, map gf (lq v))) lv) v)
@@ -142,11 +139,11 @@ module _ (b : Book) (g : Good b) (re : Renumbering (b .specs) (b .modules)) wher
     req-new x e v =
         elim (bool? (hasVersion S c (fv v))) [
           | inl h ↦ (let q = isSome-out _ (sym (hasVersion-at S c x e (fv v)) ∙ h) in
-              ap (optionMap setOf) (new-beside fv gv versions (UsedV S) (re .ofV) lv _ kv usedV (λ v. map gf (lq v)) v h)
-              ∙ ap some (fun-ext (λ f. new-each ff gf facilities (UsedF S) (re .ofF) (lq (fv v)) _ (kq (fv v)) (usedQ (fv v)) f
+              ap (optionMap setOf) (new-beside (re .ofV) lv kv usedV (λ v. map gf (lq v)) v h)
+              ∙ ap some (fun-ext (λ f. new-each (re .ofF) (lq (fv v)) (kq (fv v)) (usedQ (fv v)) f
               ∙ requires-at S c x e (fv v) (ff f) ∙ ap (λ (o : Option Set). has o (λ r. r (ff f))) (q .1)))
               ∙ sym (ap (optionMap (λ q f. q (ff f))) (q .1)))
-          | inr h ↦ ap (optionMap setOf) (new-beside-no fv gv versions (UsedV S) (re .ofV) lv _ kv usedV (λ v. map gf (lq v)) v h)
+          | inr h ↦ ap (optionMap setOf) (new-beside-no (re .ofV) lv kv usedV (λ v. map gf (lq v)) v h)
               ∙ sym (ap (optionMap (λ q f. q (ff f))) (isSome-no _ (sym (hasVersion-at S c x e (fv v)) ∙ h)))
         ]
 
@@ -162,7 +159,7 @@ module _ (b : Book) (g : Good b) (re : Renumbering (b .specs) (b .modules)) wher
           std = gv (standard S c);
         } in
         let z : y ≡ pullSpec fv ff gv x = λ i. record {
-          prov = λ f. (new-each ff gf facilities (UsedF S) (re .ofF) lp _ kp usedP f ∙ provides-at S c x e (ff f)) i;
+          prov = λ f. (new-each (re .ofF) lp kp usedP f ∙ provides-at S c x e (ff f)) i;
           req = λ v. req-new x e v i;
           std = gv (standard-at S c x e i);
         } in

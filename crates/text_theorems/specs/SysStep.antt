@@ -6,8 +6,8 @@ use mathlib.Core.Logic.{inl, inr}
 use mathlib.Core.Option.{Option, some}
 use mathlib.Core.Path.{_∙_, _≡_, ap, fun-ext, refl, sym}
 use Prim.Native.Nat.{ℕ}
-use Rattle.model.specs.Book.{Book, Modules, Specs, System, Systems, components, composed, composition, hasVersion, isMember}
-use Rattle.model.specs.Book.{isModule, isSystem, member, requires, specified, standard, usable, versions}
+use Rattle.model.specs.Book.{Book, Modules, Specs, System, Systems, composed, composition, hasVersion, isMember, isModule, isSystem}
+use Rattle.model.specs.Book.{member, requires, specified, standard, usable, versions}
 use Rattle.model.specs.Commands.{ADD-SYS, Command, Members, after, stored}
 use Rattle.model.specs.Lists.{beside, elem, every, firsts, nonEmpty, once, setOf}
 use Rattle.model.specs.Maps.{Map, has, if-there, isSome, optionMap, orElse}
@@ -200,7 +200,7 @@ module _ (b : Book) (g : Good b) (re : Renumbering (b .specs) (b .modules)) wher
 
     member-once : (v : ℕ) → once (firsts (sysMembers s ls v)) ≡ true
     unfolding sysMembers
-    member-once v = ap once (firsts-map gc _ (lm v)) ∙ new-once fc gc components (UsedC S) (re .ofC) (lm v) _ (km v) (memC v)
+    member-once v = ap once (firsts-map gc _ (lm v)) ∙ new-once (re .ofC) (lm v) (km v) (memC v)
 
     member-some : (v : ℕ) → composed Y s v ≡ true → nonEmpty (sysMembers s ls v) ≡ true
     unfolding sysMembers
@@ -214,10 +214,10 @@ module _ (b : Book) (g : Good b) (re : Renumbering (b .specs) (b .modules)) wher
         elim (bool? (isMember Y s v (fc c))) [
           | inl h ↦ (let q = isSome-out (member Y s v (fc c)) h in
               ap (optionMap (λ (w : Option ℕ). orElse w (standard S′ c)))
-              (new-beside fc gc components (UsedC S) (re .ofC) (lm v) _ (km v) (memC v) (λ c. some (gv (mv v c))) c h)
+              (new-beside (re .ofC) (lm v) (km v) (memC v) (λ c. some (gv (mv v c))) c h)
               ∙ ap (λ (z : ℕ). some (gv z)) (kw v (fc c) (q .0) (q .1)) ∙ sym (ap (optionMap gv) (sym at ∙ q .1)))
           | inr h ↦ ap (optionMap (λ (w : Option ℕ). orElse w (standard S′ c)))
-              (new-beside-no fc gc components (UsedC S) (re .ofC) (lm v) _ (km v) (memC v) (λ c. some (gv (mv v c))) c h)
+              (new-beside-no (re .ofC) (lm v) (km v) (memC v) (λ c. some (gv (mv v c))) c h)
               ∙ sym (ap (optionMap gv) (sym at ∙ isSome-no (member Y s v (fc c)) h))
         ])
 
@@ -228,11 +228,11 @@ module _ (b : Book) (g : Good b) (re : Renumbering (b .specs) (b .modules)) wher
         let at : composition Y s (fv v) ≡ y .comp (fv v) = unfold composition in andThen-in _ _ y e in
         elim (bool? (composed Y s (fv v))) [
           | inl h ↦ (let q = isSome-out (composition Y s (fv v)) h in
-              ap (optionMap (stored S′)) (new-beside fv gv versions (UsedV S) (re .ofV) lv _ kv sysV (sysMembers s ls) v h)
+              ap (optionMap (stored S′)) (new-beside (re .ofV) lv kv sysV (sysMembers s ls) v h)
               ∙ ap some (comp-at (fv v) (q .0) (q .1))
               ∙ sym (ap (optionMap {B = Map ℕ} (λ m c. optionMap gv (m (fc c)))) (sym at ∙ q .1)))
           | inr h ↦ ap (optionMap (stored S′))
-              (new-beside-no fv gv versions (UsedV S) (re .ofV) lv _ kv sysV (sysMembers s ls) v h)
+              (new-beside-no (re .ofV) lv kv sysV (sysMembers s ls) v h)
               ∙ sym (ap (optionMap {B = Map ℕ} (λ m c. optionMap gv (m (fc c)))) (sym at ∙ isSome-no (composition Y s (fv v)) h))
         ]
 
@@ -250,7 +250,7 @@ module _ (b : Book) (g : Good b) (re : Renumbering (b .specs) (b .modules)) wher
               (beside (map (λ v. (gv v, sysMembers s ls v)) lv) v);
         } in
         let z : y ≡ pullSystem fc fv gv (q .0) = λ i. record {
-          uses = λ c. (new-each fc gc components (UsedC S) (re .ofC) lu _ ku sysU c ∙ uses-at (q .0) (q .1) (fc c)) i;
+          uses = λ c. (new-each (re .ofC) lu ku sysU c ∙ uses-at (q .0) (q .1) (fc c)) i;
           comp = λ v. comp-new (q .0) (q .1) v i;
         } in
         let w : Y′ (gc s) ≡ some y = system-new s (q .0) sysSpec (q .1) ∙ ap {A = System} {B = Option System} some (sym z) in
@@ -266,9 +266,8 @@ module _ (b : Book) (g : Good b) (re : Renumbering (b .specs) (b .modules)) wher
     unfolding inLimits sysK eachBelow
     sys-small =
         and-in _ _ (<?-in _ _ (re .ofC .small s sysSpec))
-        (and-in _ _ (new-small fc gc components (UsedC S) (re .ofC) lu _ ku sysU)
-        (and-in _ _ (ap (every (λ x. x <? versions)) (firsts-map gv _ lv)
-        ∙ new-small fv gv versions (UsedV S) (re .ofV) lv _ kv sysV)
+        (and-in _ _ (new-small (re .ofC) lu ku sysU)
+        (and-in _ _ (ap (every (λ x. x <? versions)) (firsts-map gv _ lv) ∙ new-small (re .ofV) lv kv sysV)
         (ap (every (every memberBelow)) (seconds-map gv _ lv) ∙ every-of _ _ lv (λ v e. member-small v))))
 
     no-module : isModule M s ≡ false
@@ -277,18 +276,18 @@ module _ (b : Book) (g : Good b) (re : Renumbering (b .specs) (b .modules)) wher
     pub sys-yes : answer (by l) (sysK s ls) ≡ 0
     unfolding answer questions sysK by exactly noRequirements
     sys-yes = no-no
-        (yes-all (sys-small)
+        (yes-all sys-small
         (yes-all (and-in _ _ (nonEmpty-map _ lv
         (lists-nonEmpty lv _ kv (standard S s) (g .b2 .sys-covers s (standard S s) there ∙ g .b1 .std-in s sysSpec)))
         (ap (every nonEmpty) (seconds-map gv _ lv) ∙ every-of _ _ lv (λ v e. member-some v (sym (kv .each v) ∙ e))))
-        (yes-all (and-in _ _ (ap once (firsts-map gv _ lv) ∙ new-once fv gv versions (UsedV S) (re .ofV) lv _ kv sysV)
-        (and-in _ _ (new-once fc gc components (UsedC S) (re .ofC) lu _ ku sysU)
+        (yes-all (and-in _ _ (ap once (firsts-map gv _ lv) ∙ new-once (re .ofV) lv kv sysV)
+        (and-in _ _ (new-once (re .ofC) lu ku sysU)
         (ap (every (λ ms. once (firsts ms))) (seconds-map gv _ lv) ∙ every-of _ _ lv (λ v e. member-once v))))
         (yes-all (specified′ b re (gc s) ∙ ap (specified S) back-s ∙ sysSpec)
         (yes-all (is-undefined M′ (only l Y′) (gc s) (isModule′ b re (gc s) ∙ ap (isModule M) back-s ∙ no-module)
         (none-yet l (gc s) fresh))
         (yes-all (all-in _ _ (λ v k. iff-in _ _ (ap (elem v) (firsts-map gv _ lv)
-        ∙ new-each fv gv versions (UsedV S) (re .ofV) lv _ kv sysV v ∙ g .b2 .sys-covers s (fv v) there
+        ∙ new-each (re .ofV) lv kv sysV v ∙ g .b2 .sys-covers s (fv v) there
         ∙ ap (λ (z : ℕ). hasVersion S z (fv v)) (sym back-s) ∙ sym (hasVersion′ b re (gc s) v))))
         (yes-all (all-in _ _ (λ v k. all-in _ _
         (λ f j. not-in _ (requires′ b re (gc s) v f ∙ ap (λ (z : ℕ). requires S z (fv v) (ff f)) back-s

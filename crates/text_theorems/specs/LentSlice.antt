@@ -18,10 +18,10 @@ use Rattle.text.specs.LentSlice.{fitsIn, stateAfter}
 use Rattle.text.specs.SameByNames.{Same, accepted, holds, textOf}
 use Rattle.text.specs.Session.{State, decimal, digits, row, session}
 use Rattle.text.specs.Written.{asCommands, byName, modOf, specOf, sysOf, systemsFrom, systemsInOrder}
+use Rattle.text_theorems.specs.BookReadsBack.{reads-back}
 use Rattle.text_theorems.specs.Listed.{lists-length}
 use Rattle.text_theorems.specs.Mentions.{cs-lists, ms-lists}
 use Rattle.text_theorems.specs.NamedGood.{NamedGood, passes→named}
-use Rattle.text_theorems.specs.RoundTrip.{reads-back}
 use Rattle.text_theorems.specs.TextLaws.{length-map}
 
 -- ---- the rows of a book that is read back

@@ -19,10 +19,10 @@ pub mod Mentions
 pub mod NewNumbers
 pub mod Phases
 pub mod Rebuilt
-pub mod RoundTrip
+pub mod BookReadsBack
 pub mod Unique
-pub mod Twins
-pub mod Tells
+pub mod SameNames
+pub mod EqualTexts
 pub mod Handed
 pub mod Left
 pub mod Takes

@@ -93,13 +93,13 @@ sorted-once t (x ∷ xs) o = insert-once t x (sorted t xs) (sorted-elem t x xs �
 -- l holds each number that passes the test, once
 pub record Lists (l : List ℕ) (test : ℕ → Bool) : Type 0 where
   pub each : (n : ℕ) → elem n l ≡ test n
-  pub one : once l ≡ true
+  pub once : once l ≡ true
 
 pub byName-lists : (t : Table) (L : ℕ) (test : ℕ → Bool) → ((n : ℕ) → test n ≡ true → n < L) → Lists (byName t L test) test
 unfolding byName
 byName-lists t L test h = record {
   each = λ n. sorted-elem t n _ ∙ iff→≡ _ _ (λ e. rising-elem L n test .0 e .1) (λ e. rising-elem L n test .1 (h n e, e));
-  one = sorted-once t _ (rising-once L test);
+  once = sorted-once t _ (rising-once L test);
 }
 
 pub lists-nonEmpty : (l : List ℕ) (test : ℕ → Bool) → Lists l test → (n : ℕ) → test n ≡ true → nonEmpty l ≡ true
@@ -115,7 +115,7 @@ below-all L (x ∷ xs) h = and-in _ _ (<?-in _ _ (h x (or-l _ _ (==-same x)))) (
 pub lists-length : (L : ℕ) (l : List ℕ) (test : ℕ → Bool) → Lists l test → ((n : ℕ) → test n ≡ true → n < L)
     → length l ≤ count L test
 lists-length L l test k h =
-    le-trans (once-count L l (k .one) (below-all L l (λ n e. h n (sym (k .each n) ∙ e))))
+    le-trans (once-count L l (k .once) (below-all L l (λ n e. h n (sym (k .each n) ∙ e))))
     (count-mono L _ _ (λ i q e. sym (k .each i) ∙ e))
 
 -- ---- a test of each element
@@ -193,7 +193,7 @@ module _ {f g : ℕ → ℕ} {L : ℕ} {Use : ℕ → Type 0} (R : Renaming f g 
       (λ e. subst (λ (z : ℕ). elem z (map g l) ≡ true) (R .forth m (used (f m) e)) (elem-map-in g l (f m) (k .each (f m) ∙ e)))
 
   pub new-once : once (map g l) ≡ true
-  new-once = once-map g l (k .one) injective
+  new-once = once-map g l (k .once) injective
 
   pub new-small : every (λ x. x <? L) (map g l) ≡ true
   new-small = every-of _ g l (λ n e. <?-in _ _ (R .small n (use-of n e)))

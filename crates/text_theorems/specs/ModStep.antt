@@ -20,7 +20,7 @@ use Rattle.text.specs.Session.{fresh}
 use Rattle.text_theorems.specs.Listed.{Lists, every-of, firsts-map, lists-nonEmpty, new-beside, new-beside-no, new-each}
 use Rattle.text_theorems.specs.Listed.{new-once, new-small, seconds-map}
 use Rattle.text_theorems.specs.Renamed.{Renumbering, UsedI, UsedV, implementationOf, versionOf}
-use Rattle.text_theorems.specs.Renumbered.{hasVersion′, newModules, newSpecs, only, only-out, pullModule, put-only}
+use Rattle.text_theorems.specs.Renumbered.{hasVersion′, newModules, newSpecs, only, only-out, put-only, renumberModule}
 use Rattle.text_theorems.specs.Renumbered.{specified′}
 use Rattle.text_theorems.specs.TextLaws.{nonEmpty-map}
 use Rattle.theorems.specs.Good.{Good}
@@ -52,34 +52,34 @@ module _ (b : Book) (g : Good b) (re : Renumbering (b .specs) (b .modules)) wher
   abbrev M′ : Modules
   M′ = newModules b re
 
-  abbrev fc : ℕ → ℕ
-  fc = re .fc
+  abbrev oldC : ℕ → ℕ
+  oldC = re .oldC
 
-  abbrev gc : ℕ → ℕ
-  gc = re .gc
+  abbrev newC : ℕ → ℕ
+  newC = re .newC
 
-  abbrev fv : ℕ → ℕ
-  fv = re .fv
+  abbrev oldV : ℕ → ℕ
+  oldV = re .oldV
 
-  abbrev gv : ℕ → ℕ
-  gv = re .gv
+  abbrev newV : ℕ → ℕ
+  newV = re .newV
 
-  abbrev gi : ℕ → ℕ
-  gi = re .gi
+  abbrev newI : ℕ → ℕ
+  newI = re .newI
 
   -- the specs are in, and the modules at the new numbers of l
-  unfoldable pub bm : List ℕ → Book
-  bm l = record { specs = S′; modules = only l M′; systems = λ c. none }
+  unfoldable pub withModules : List ℕ → Book
+  withModules l = record { specs = S′; modules = only l M′; systems = λ c. none }
 
-  unfoldable pub modK : (c : ℕ) → ModLists M c → Command
-  modK c ls = ADD-MOD (gc c) (map (λ v. (gv v, gi (ls .impl v))) (ls .vers))
+  unfoldable pub modCommand : (c : ℕ) → ModLists M c → Command
+  modCommand c ls = ADD-MOD (newC c) (map (λ v. (newV v, newI (ls .impl v))) (ls .vers))
 
-  module-new : (c : ℕ) (i : Map ℕ) → specified S c ≡ true → M c ≡ some i → M′ (gc c) ≡ some (pullModule fv gi i)
+  module-new : (c : ℕ) (i : Map ℕ) → specified S c ≡ true → M c ≡ some i → M′ (newC c) ≡ some (renumberModule oldV newI i)
   unfolding newModules optionMap
-  module-new c i there e = ap (λ (k : ℕ). optionMap (pullModule fv gi) (M k)) (re .ofC .back c there)
-      ∙ ap (optionMap (pullModule fv gi)) e
+  module-new c i there e = ap (λ (k : ℕ). optionMap (renumberModule oldV newI) (M k)) (re .ofC .back c there)
+      ∙ ap (optionMap (renumberModule oldV newI)) e
 
-  module _ (c : ℕ) (ls : ModLists M c) (l : List ℕ) (there : isModule M c ≡ true) (fresh : elem (gc c) l ≡ false) where
+  module _ (c : ℕ) (ls : ModLists M c) (l : List ℕ) (there : isModule M c ≡ true) (fresh : elem (newC c) l ≡ false) where
     abbrev lv : List ℕ
     lv = ls .vers
 
@@ -101,42 +101,42 @@ module _ (b : Book) (g : Good b) (re : Renumbering (b .specs) (b .modules)) wher
     modI : (v : ℕ) → isSome (implementation M c v) ≡ true → UsedI M (im v)
     modI v e = let q = isSome-out _ e in implementationOf c v (q .1 ∙ ap some (sym (ki v (q .0) (q .1))))
 
-    back-c : fc (gc c) ≡ c
+    back-c : oldC (newC c) ≡ c
     back-c = re .ofC .back c modSpec
 
-    pub mod-yes : answer (bm l) (modK c ls) ≡ 0
-    unfolding answer questions modK bm inLimits eachBelow isModule isSystem isSome exactly
+    pub mod-yes : answer (withModules l) (modCommand c ls) ≡ 0
+    unfolding answer questions modCommand withModules inLimits eachBelow isModule isSystem isSome exactly
     mod-yes = no-no
         (yes-all (and-in _ _ (<?-in _ _ (re .ofC .small c modSpec)) (and-in _ _
-        (ap (every (λ x. x <? versions)) (firsts-map gv _ lv) ∙ new-small (re .ofV) lv kv modV)
-        (ap (every (λ x. x <? implementations)) (seconds-map gv _ lv)
-        ∙ every-of _ (λ v. gi (im v)) lv (λ v e. <?-in _ _ (re .ofI .small (im v) (modI v (sym (kv .each v) ∙ e)))))))
+        (ap (every (λ x. x <? versions)) (firsts-map newV _ lv) ∙ new-small (re .ofV) lv kv modV)
+        (ap (every (λ x. x <? implementations)) (seconds-map newV _ lv)
+        ∙ every-of _ (λ v. newI (im v)) lv (λ v e. <?-in _ _ (re .ofI .small (im v) (modI v (sym (kv .each v) ∙ e)))))))
         (yes-all (nonEmpty-map _ lv (lists-nonEmpty lv _ kv (standard S c) (g .b2 .mod-covers c (standard S c) there
         ∙ g .b1 .std-in c modSpec)))
-        (yes-all (ap once (firsts-map gv _ lv) ∙ new-once (re .ofV) lv kv modV)
-        (yes-all (specified′ b re (gc c) ∙ ap (specified S) back-c ∙ modSpec)
-        (yes-all (is-undefined (only l M′) (λ c. none) (gc c) (ap isSome (only-out l M′ (gc c) fresh)) refl)
-        (yes-all (all-in _ _ (λ v k. iff-in _ _ (ap (elem v) (firsts-map gv _ lv)
-        ∙ new-each (re .ofV) lv kv modV v ∙ g .b2 .mod-covers c (fv v) there
-        ∙ ap (λ (z : ℕ). hasVersion S z (fv v)) (sym back-c) ∙ sym (hasVersion′ b re (gc c) v))))
+        (yes-all (ap once (firsts-map newV _ lv) ∙ new-once (re .ofV) lv kv modV)
+        (yes-all (specified′ b re (newC c) ∙ ap (specified S) back-c ∙ modSpec)
+        (yes-all (is-undefined (only l M′) (λ c. none) (newC c) (ap isSome (only-out l M′ (newC c) fresh)) refl)
+        (yes-all (all-in _ _ (λ v k. iff-in _ _ (ap (elem v) (firsts-map newV _ lv)
+        ∙ new-each (re .ofV) lv kv modV v ∙ g .b2 .mod-covers c (oldV v) there
+        ∙ ap (λ (z : ℕ). hasVersion S z (oldV v)) (sym back-c) ∙ sym (hasVersion′ b re (newC c) v))))
         none-left))))))
 
-    impl-new : (i : Map ℕ) → M c ≡ some i → (v : ℕ) → beside (map (λ v. (gv v, gi (im v))) lv) v ≡ optionMap gi (i (fv v))
+    impl-new : (i : Map ℕ) → M c ≡ some i → (v : ℕ) → beside (map (λ v. (newV v, newI (im v))) lv) v ≡ optionMap newI (i (oldV v))
     unfolding optionMap
     impl-new i e v =
-        let at : implementation M c (fv v) ≡ i (fv v) = unfold implementation in andThen-in _ _ i e in
-        elim (bool? (isSome (implementation M c (fv v)))) [
+        let at : implementation M c (oldV v) ≡ i (oldV v) = unfold implementation in andThen-in _ _ i e in
+        elim (bool? (isSome (implementation M c (oldV v)))) [
           | inl h ↦ (let q = isSome-out _ h in
-              new-beside (re .ofV) lv kv modV (λ v. gi (im v)) v h
-              ∙ ap (λ (z : ℕ). some (gi z)) (ki (fv v) (q .0) (q .1)) ∙ sym (ap (optionMap gi) (sym at ∙ q .1)))
-          | inr h ↦ new-beside-no (re .ofV) lv kv modV (λ v. gi (im v)) v h ∙ sym (ap (optionMap gi) (sym at ∙ isSome-no _ h))
+              new-beside (re .ofV) lv kv modV (λ v. newI (im v)) v h
+              ∙ ap (λ (z : ℕ). some (newI z)) (ki (oldV v) (q .0) (q .1)) ∙ sym (ap (optionMap newI) (sym at ∙ q .1)))
+          | inr h ↦ new-beside-no (re .ofV) lv kv modV (λ v. newI (im v)) v h ∙ sym (ap (optionMap newI) (sym at ∙ isSome-no _ h))
         ]
 
-    pub mod-after : after (bm l) (modK c ls) ≡ bm (gc c ∷ l)
-    unfolding after modK bm pullModule
+    pub mod-after : after (withModules l) (modCommand c ls) ≡ withModules (newC c ∷ l)
+    unfolding after modCommand withModules renumberModule
     mod-after =
         let q = isSome-out (M c) (unfold isModule in there) in
-        let y : Map ℕ = beside (map (λ v. (gv v, gi (im v))) lv) in
-        let z : y ≡ pullModule fv gi (q .0) = fun-ext (λ v. impl-new (q .0) (q .1) v) in
-        let w : M′ (gc c) ≡ some y = module-new c (q .0) modSpec (q .1) ∙ ap {A = Map ℕ} {B = Option (Map ℕ)} some (sym z) in
-        λ i. record { specs = S′; modules = put-only l M′ (gc c) y w i; systems = λ c. none }
+        let y : Map ℕ = beside (map (λ v. (newV v, newI (im v))) lv) in
+        let z : y ≡ renumberModule oldV newI (q .0) = fun-ext (λ v. impl-new (q .0) (q .1) v) in
+        let w : M′ (newC c) ≡ some y = module-new c (q .0) modSpec (q .1) ∙ ap {A = Map ℕ} {B = Option (Map ℕ)} some (sym z) in
+        λ i. record { specs = S′; modules = put-only l M′ (newC c) y w i; systems = λ c. none }

@@ -54,54 +54,54 @@ module _ (b : Book) (t : Tables) (g : Good b) (nm : Named (record { book = b; ta
         (<?-in _ _ (g .moduleLimits .implementation< c v i e .1));
   }
 
-  unfoldable pub T : Tables
-  T = allEntered noNames (asCommands b t)
+  unfoldable pub reachedTables : Tables
+  reachedTables = allEntered noNames (asCommands b t)
 
   -- each name that is reached is known in t
-  comps-known : every (known (t .comps) components) (T .comps) ≡ true
-  unfolding T
+  comps-known : every (known (t .comps) components) (reachedTables .comps) ≡ true
+  unfolding reachedTables
   comps-known = ap (every (known (t .comps) components)) (entered-comps noNames _) ∙ enter-every _ [] _ (every-none _)
       (all-pass b t g nm _ _ _ _ known-names (λ m. m .comps) _ (λ k p. p .comps))
 
-  vers-known : every (known (t .vers) versions) (T .vers) ≡ true
-  unfolding T
+  vers-known : every (known (t .vers) versions) (reachedTables .vers) ≡ true
+  unfolding reachedTables
   vers-known = ap (every (known (t .vers) versions)) (entered-vers noNames _) ∙ enter-every _ [] _ (every-none _)
       (all-pass b t g nm _ _ _ _ known-names (λ m. m .vers) _ (λ k p. p .vers))
 
-  facs-known : every (known (t .facs) facilities) (T .facs) ≡ true
-  unfolding T
+  facs-known : every (known (t .facs) facilities) (reachedTables .facs) ≡ true
+  unfolding reachedTables
   facs-known = ap (every (known (t .facs) facilities)) (entered-facs noNames _) ∙ enter-every _ [] _ (every-none _)
       (all-pass b t g nm _ _ _ _ known-names (λ m. m .facs) _ (λ k p. p .facs))
 
-  impls-known : every (known (t .impls) implementations) (T .impls) ≡ true
-  unfolding T
+  impls-known : every (known (t .impls) implementations) (reachedTables .impls) ≡ true
+  unfolding reachedTables
   impls-known = ap (every (known (t .impls) implementations)) (entered-impls noNames _) ∙ enter-every _ [] _ (every-none _)
       (all-pass b t g nm _ _ _ _ known-names (λ m. m .impls) _ (λ k p. p .impls))
 
-  pub comps-apart : apart (T .comps) ≡ true
-  unfolding T
+  pub comps-apart : apart (reachedTables .comps) ≡ true
+  unfolding reachedTables
   comps-apart = ap apart (entered-comps noNames _) ∙ enter-apart [] _ (unfold apart in refl)
 
-  pub vers-apart : apart (T .vers) ≡ true
-  unfolding T
+  pub vers-apart : apart (reachedTables .vers) ≡ true
+  unfolding reachedTables
   vers-apart = ap apart (entered-vers noNames _) ∙ enter-apart [] _ (unfold apart in refl)
 
-  pub facs-apart : apart (T .facs) ≡ true
-  unfolding T
+  pub facs-apart : apart (reachedTables .facs) ≡ true
+  unfolding reachedTables
   facs-apart = ap apart (entered-facs noNames _) ∙ enter-apart [] _ (unfold apart in refl)
 
-  pub impls-apart : apart (T .impls) ≡ true
-  unfolding T
+  pub impls-apart : apart (reachedTables .impls) ≡ true
+  unfolding reachedTables
   impls-apart = ap apart (entered-impls noNames _) ∙ enter-apart [] _ (unfold apart in refl)
 
   -- there is a place for each name
-  pub T-fits : fits T ≡ true
+  pub T-fits : fits reachedTables ≡ true
   unfolding fits
   T-fits =
-      and-in _ _ (≤?-in _ _ (known-fits (t .comps) components (T .comps) comps-apart comps-known))
-      (and-in _ _ (≤?-in _ _ (known-fits (t .vers) versions (T .vers) vers-apart vers-known))
-      (and-in _ _ (≤?-in _ _ (known-fits (t .facs) facilities (T .facs) facs-apart facs-known))
-      (≤?-in _ _ (known-fits (t .impls) implementations (T .impls) impls-apart impls-known))))
+      and-in _ _ (≤?-in _ _ (known-fits (t .comps) components (reachedTables .comps) comps-apart comps-known))
+      (and-in _ _ (≤?-in _ _ (known-fits (t .vers) versions (reachedTables .vers) vers-apart vers-known))
+      (and-in _ _ (≤?-in _ _ (known-fits (t .facs) facilities (reachedTables .facs) facs-apart facs-known))
+      (≤?-in _ _ (known-fits (t .impls) implementations (reachedTables .impls) impls-apart impls-known))))
 
   -- ---- each number of the book has its name there
 
@@ -123,15 +123,15 @@ module _ (b : Book) (t : Tables) (g : Good b) (nm : Named (record { book = b; ta
   into : (ws : List Name) (w : Name) (t′ : Table) → t′ ≡ enter [] ws → among w ws ≡ true → among w t′ ≡ true
   into ws w t′ e a = ap (among w) e ∙ every-among (λ x. among x (enter [] ws)) ws w (enter-has [] ws) a
 
-  hasC : (c : ℕ) → specified S c ≡ true → among (nameAt (t .comps) c) (T .comps) ≡ true
-  unfolding T
+  hasC : (c : ℕ) → specified S c ≡ true → among (nameAt (t .comps) c) (reachedTables .comps) ≡ true
+  unfolding reachedTables
   hasC c e = into _ _ _ (entered-comps noNames _) (mention-spec (λ m. m .comps) _ c e (here c))
     where
       here : (c : ℕ) → among (nameAt (t .comps) c) (mentioned (specOf b t c) .comps) ≡ true
       here c = unfold mentioned specOf specNames among in or-l _ _ (same-refl (nameAt (t .comps) c))
 
-  hasV : (c v : ℕ) → hasVersion S c v ≡ true → among (nameAt (t .vers) v) (T .vers) ≡ true
-  unfolding T
+  hasV : (c v : ℕ) → hasVersion S c v ≡ true → among (nameAt (t .vers) v) (reachedTables .vers) ≡ true
+  unfolding reachedTables
   hasV c v e = into _ _ _ (entered-vers noNames _) (mention-spec (λ m. m .vers) _ c (version-specified S c v e) here)
     where
       here : among (nameAt (t .vers) v) (mentioned (specOf b t c) .vers) ≡ true
@@ -139,8 +139,8 @@ module _ (b : Book) (t : Tables) (g : Good b) (nm : Named (record { book = b; ta
           among-map (λ (x : Name × List Name). x .0) (λ v. (nameAt (t .vers) v, facilityNames t (requires S c v)))
           (byName (t .vers) versions (hasVersion S c)) v (lv-lists b t g nm c .each v ∙ e)
 
-  hasP : (c f : ℕ) → provides S c f ≡ true → specified S c ≡ true → among (nameAt (t .facs) f) (T .facs) ≡ true
-  unfolding T
+  hasP : (c f : ℕ) → provides S c f ≡ true → specified S c ≡ true → among (nameAt (t .facs) f) (reachedTables .facs) ≡ true
+  unfolding reachedTables
   hasP c f e k = into _ _ _ (entered-facs noNames _) (mention-spec (λ m. m .facs) _ c k here)
     where
       here : among (nameAt (t .facs) f) (mentioned (specOf b t c) .facs) ≡ true
@@ -148,8 +148,8 @@ module _ (b : Book) (t : Tables) (g : Good b) (nm : Named (record { book = b; ta
           among-l _ (facilityNames t (provides S c)) _ (unfold facilityNames in
           among-names-in (nameAt (t .facs)) (byName (t .facs) facilities (provides S c)) f (lp-lists b t g nm c .each f ∙ e))
 
-  hasQ : (c v f : ℕ) → requires S c v f ≡ true → hasVersion S c v ≡ true → among (nameAt (t .facs) f) (T .facs) ≡ true
-  unfolding T
+  hasQ : (c v f : ℕ) → requires S c v f ≡ true → hasVersion S c v ≡ true → among (nameAt (t .facs) f) (reachedTables .facs) ≡ true
+  unfolding reachedTables
   hasQ c v f e k = into _ _ _ (entered-facs noNames _) (mention-spec (λ m. m .facs) _ c (version-specified S c v k) here)
     where
       inner : among (nameAt (t .facs) f) (facilityNames t (requires S c v)) ≡ true
@@ -161,8 +161,8 @@ module _ (b : Book) (t : Tables) (g : Good b) (nm : Named (record { book = b; ta
           (among-of _ (λ (x : Name × List Name). x .1) (λ v. (nameAt (t .vers) v, facilityNames t (requires S c v)))
           (byName (t .vers) versions (hasVersion S c)) v (lv-lists b t g nm c .each v ∙ k) inner)
 
-  hasI : (c v i : ℕ) → implementation M c v ≡ some i → among (nameAt (t .impls) i) (T .impls) ≡ true
-  unfolding T
+  hasI : (c v i : ℕ) → implementation M c v ≡ some i → among (nameAt (t .impls) i) (reachedTables .impls) ≡ true
+  unfolding reachedTables
   hasI c v i e = into _ _ _ (entered-impls noNames _) (mention-mod (λ m. m .impls) _ c (implementation-module M c v i e) here)
     where
       h : ℕ → Name
@@ -180,44 +180,46 @@ module _ (b : Book) (t : Tables) (g : Good b) (nm : Named (record { book = b; ta
 
   -- ---- from the book's numbers to the session's
 
-  abbrev pub fc : ℕ → ℕ
-  fc = old (t .comps) (T .comps) components
+  abbrev pub oldC : ℕ → ℕ
+  oldC = old (t .comps) (reachedTables .comps) components
 
-  abbrev pub gc : ℕ → ℕ
-  gc = new (t .comps) (T .comps)
+  abbrev pub newC : ℕ → ℕ
+  newC = new (t .comps) (reachedTables .comps)
 
-  abbrev pub fv : ℕ → ℕ
-  fv = old (t .vers) (T .vers) versions
+  abbrev pub oldV : ℕ → ℕ
+  oldV = old (t .vers) (reachedTables .vers) versions
 
-  abbrev pub gv : ℕ → ℕ
-  gv = new (t .vers) (T .vers)
+  abbrev pub newV : ℕ → ℕ
+  newV = new (t .vers) (reachedTables .vers)
 
-  abbrev pub ff : ℕ → ℕ
-  ff = old (t .facs) (T .facs) facilities
+  abbrev pub oldF : ℕ → ℕ
+  oldF = old (t .facs) (reachedTables .facs) facilities
 
-  abbrev pub gf : ℕ → ℕ
-  gf = new (t .facs) (T .facs)
+  abbrev pub newF : ℕ → ℕ
+  newF = new (t .facs) (reachedTables .facs)
 
-  abbrev pub fi : ℕ → ℕ
-  fi = old (t .impls) (T .impls) implementations
+  abbrev pub oldI : ℕ → ℕ
+  oldI = old (t .impls) (reachedTables .impls) implementations
 
-  abbrev pub gi : ℕ → ℕ
-  gi = new (t .impls) (T .impls)
+  abbrev pub newI : ℕ → ℕ
+  newI = new (t .impls) (reachedTables .impls)
 
-  pub reC : Renaming fc gc components (UsedC S)
-  reC = renaming (t .comps) (T .comps) components (UsedC S) (nm .comps-once) comps-apart
-      (known-fits (t .comps) components (T .comps) comps-apart comps-known)
+  pub reC : Renaming oldC newC components (UsedC S)
+  reC = renaming (t .comps) (reachedTables .comps) components (UsedC S) (nm .comps-once) comps-apart
+      (known-fits (t .comps) components (reachedTables .comps) comps-apart comps-known)
       (λ c e. (g .specLimits .component< c e, valid-some _ (nm .component c e), hasC c e))
 
-  usedV : (v : ℕ) → UsedV S v → (v < versions) × (nonEmpty (nameAt (t .vers) v) ≡ true) × (among (nameAt (t .vers) v) (T .vers)
+  usedV : (v : ℕ) → UsedV S v → (v < versions) × (nonEmpty (nameAt (t .vers) v) ≡ true) ×
+      (among (nameAt (t .vers) v) (reachedTables .vers)
       ≡ true)
   usedV v (versionOf c e) = (g .specLimits .version< c v e, valid-some _ (nm .version c v e), hasV c v e)
 
-  pub reV : Renaming fv gv versions (UsedV S)
-  reV = renaming (t .vers) (T .vers) versions (UsedV S) (nm .vers-once) vers-apart
-      (known-fits (t .vers) versions (T .vers) vers-apart vers-known) usedV
+  pub reV : Renaming oldV newV versions (UsedV S)
+  reV = renaming (t .vers) (reachedTables .vers) versions (UsedV S) (nm .vers-once) vers-apart
+      (known-fits (t .vers) versions (reachedTables .vers) vers-apart vers-known) usedV
 
-  usedF : (f : ℕ) → UsedF S f → (f < facilities) × (nonEmpty (nameAt (t .facs) f) ≡ true) × (among (nameAt (t .facs) f) (T .facs)
+  usedF : (f : ℕ) → UsedF S f → (f < facilities) × (nonEmpty (nameAt (t .facs) f) ≡ true) ×
+      (among (nameAt (t .facs) f) (reachedTables .facs)
       ≡ true)
   usedF f (providedBy c e) = (
     g .specLimits .provided< c f e,
@@ -232,45 +234,45 @@ module _ (b : Book) (t : Tables) (g : Good b) (nm : Named (record { book = b; ta
         (requires-version S c v f e),
   )
 
-  pub reF : Renaming ff gf facilities (UsedF S)
-  reF = renaming (t .facs) (T .facs) facilities (UsedF S) (nm .facs-once) facs-apart
-      (known-fits (t .facs) facilities (T .facs) facs-apart facs-known) usedF
+  pub reF : Renaming oldF newF facilities (UsedF S)
+  reF = renaming (t .facs) (reachedTables .facs) facilities (UsedF S) (nm .facs-once) facs-apart
+      (known-fits (t .facs) facilities (reachedTables .facs) facs-apart facs-known) usedF
 
   usedI : (i : ℕ) → UsedI M i → (i < implementations) × (nonEmpty (nameAt (t .impls) i) ≡ true) ×
-      (among (nameAt (t .impls) i) (T .impls) ≡ true)
+      (among (nameAt (t .impls) i) (reachedTables .impls) ≡ true)
   usedI i (implementationOf c v e) = (
     g .moduleLimits .implementation< c v i e .1,
     impl-some _ (nm .implemented c v i e),
     hasI c v i e,
   )
 
-  pub reI : Renaming fi gi implementations (UsedI M)
-  reI = renaming (t .impls) (T .impls) implementations (UsedI M) (nm .impls-once) impls-apart
-      (known-fits (t .impls) implementations (T .impls) impls-apart impls-known) usedI
+  pub reI : Renaming oldI newI implementations (UsedI M)
+  reI = renaming (t .impls) (reachedTables .impls) implementations (UsedI M) (nm .impls-once) impls-apart
+      (known-fits (t .impls) implementations (reachedTables .impls) impls-apart impls-known) usedI
 
   usedC : (c : ℕ) → UsedC S c → (c < components) × (nonEmpty (nameAt (t .comps) c) ≡ true) ×
-      (among (nameAt (t .comps) c) (T .comps) ≡ true)
+      (among (nameAt (t .comps) c) (reachedTables .comps) ≡ true)
   usedC c e = (g .specLimits .component< c e, valid-some _ (nm .component c e), hasC c e)
 
-  pub atC : (w : Name) (P P′ : ℕ → Bool) → ((m : ℕ) → P′ m ≡ P (fc m)) → ((n : ℕ) → P n ≡ true → UsedC S n)
-      → has (place (T .comps) w) P′ ≡ has (place (t .comps) w) P
-  atC = at-through (t .comps) (T .comps) components (UsedC S) (nm .comps-once) comps-apart
-      (known-fits (t .comps) components (T .comps) comps-apart comps-known) usedC
+  pub atC : (w : Name) (P P′ : ℕ → Bool) → ((m : ℕ) → P′ m ≡ P (oldC m)) → ((n : ℕ) → P n ≡ true → UsedC S n)
+      → has (place (reachedTables .comps) w) P′ ≡ has (place (t .comps) w) P
+  atC = at-through (t .comps) (reachedTables .comps) components (UsedC S) (nm .comps-once) comps-apart
+      (known-fits (t .comps) components (reachedTables .comps) comps-apart comps-known) usedC
 
-  pub atV : (w : Name) (P P′ : ℕ → Bool) → ((m : ℕ) → P′ m ≡ P (fv m)) → ((n : ℕ) → P n ≡ true → UsedV S n)
-      → has (place (T .vers) w) P′ ≡ has (place (t .vers) w) P
-  atV = at-through (t .vers) (T .vers) versions (UsedV S) (nm .vers-once) vers-apart
-      (known-fits (t .vers) versions (T .vers) vers-apart vers-known) usedV
+  pub atV : (w : Name) (P P′ : ℕ → Bool) → ((m : ℕ) → P′ m ≡ P (oldV m)) → ((n : ℕ) → P n ≡ true → UsedV S n)
+      → has (place (reachedTables .vers) w) P′ ≡ has (place (t .vers) w) P
+  atV = at-through (t .vers) (reachedTables .vers) versions (UsedV S) (nm .vers-once) vers-apart
+      (known-fits (t .vers) versions (reachedTables .vers) vers-apart vers-known) usedV
 
-  pub atF : (w : Name) (P P′ : ℕ → Bool) → ((m : ℕ) → P′ m ≡ P (ff m)) → ((n : ℕ) → P n ≡ true → UsedF S n)
-      → has (place (T .facs) w) P′ ≡ has (place (t .facs) w) P
-  atF = at-through (t .facs) (T .facs) facilities (UsedF S) (nm .facs-once) facs-apart
-      (known-fits (t .facs) facilities (T .facs) facs-apart facs-known) usedF
+  pub atF : (w : Name) (P P′ : ℕ → Bool) → ((m : ℕ) → P′ m ≡ P (oldF m)) → ((n : ℕ) → P n ≡ true → UsedF S n)
+      → has (place (reachedTables .facs) w) P′ ≡ has (place (t .facs) w) P
+  atF = at-through (t .facs) (reachedTables .facs) facilities (UsedF S) (nm .facs-once) facs-apart
+      (known-fits (t .facs) facilities (reachedTables .facs) facs-apart facs-known) usedF
 
-  pub atI : (w : Name) (P P′ : ℕ → Bool) → ((m : ℕ) → P′ m ≡ P (fi m)) → ((n : ℕ) → P n ≡ true → UsedI M n)
-      → has (place (T .impls) w) P′ ≡ has (place (t .impls) w) P
-  atI = at-through (t .impls) (T .impls) implementations (UsedI M) (nm .impls-once) impls-apart
-      (known-fits (t .impls) implementations (T .impls) impls-apart impls-known) usedI
+  pub atI : (w : Name) (P P′ : ℕ → Bool) → ((m : ℕ) → P′ m ≡ P (oldI m)) → ((n : ℕ) → P n ≡ true → UsedI M n)
+      → has (place (reachedTables .impls) w) P′ ≡ has (place (t .impls) w) P
+  atI = at-through (t .impls) (reachedTables .impls) implementations (UsedI M) (nm .impls-once) impls-apart
+      (known-fits (t .impls) implementations (reachedTables .impls) impls-apart impls-known) usedI
 
   abbrev pub renumbering : Renumbering S M
-  renumbering = record { fc = fc; gc = gc; fv = fv; gv = gv; ff = ff; gf = gf; fi = fi; gi = gi; ofC = reC; ofV = reV; ofF = reF; ofI = reI }
+  renumbering = record { oldC = oldC; newC = newC; oldV = oldV; newV = newV; oldF = oldF; newF = newF; oldI = oldI; newI = newI; ofC = reC; ofV = reV; ofF = reF; ofI = reI }

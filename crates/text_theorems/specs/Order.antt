@@ -58,9 +58,9 @@ unfolding systemsFrom ifFound
 from-some n Y ss out x e = ap (λ (o : Option ℕ). ifFound o (λ s. s ∷ systemsFrom n Y ss (s ∷ out))) e
 
 -- numbers that go in one after the other: each can, with those before it in
-pub data Fine (gc : ℕ → ℕ) (Can : List ℕ → ℕ → Type 0) : List ℕ → List ℕ → Type 0 where
-  none-left : {l : List ℕ} → Fine gc Can l []
-  one-more : {l : List ℕ} {c : ℕ} {cs : List ℕ} → Can l c → Fine gc Can (gc c ∷ l) cs → Fine gc Can l (c ∷ cs)
+pub data InTurn (newC : ℕ → ℕ) (Can : List ℕ → ℕ → Type 0) : List ℕ → List ℕ → Type 0 where
+  none-left : {l : List ℕ} → InTurn newC Can l []
+  one-more : {l : List ℕ} {c : ℕ} {cs : List ℕ} → Can l c → InTurn newC Can (newC c ∷ l) cs → InTurn newC Can l (c ∷ cs)
 
 module _ (b : Book) (g : Good b) (ss : List ℕ) (ks : Lists ss (isSystem (b .systems))) where
   abbrev Y : Systems
@@ -155,19 +155,19 @@ module _ (b : Book) (g : Good b) (ss : List ℕ) (ks : Lists ss (isSystem (b .sy
   -- ---- under new numbers
 
   module _ (re : Renumbering (b .specs) (b .modules)) where
-    abbrev fc : ℕ → ℕ
-    fc = re .fc
+    abbrev oldC : ℕ → ℕ
+    oldC = re .oldC
 
-    abbrev gc : ℕ → ℕ
-    gc = re .gc
+    abbrev newC : ℕ → ℕ
+    newC = re .newC
 
     abbrev pub Closed : List ℕ → Type 0
-    Closed l = (s c : ℕ) → elem s l ≡ true → usable Y (fc s) (fc c) ≡ true → isSystem Y (fc c) ≡ true → elem c l ≡ true
+    Closed l = (s c : ℕ) → elem s l ≡ true → usable Y (oldC s) (oldC c) ≡ true → isSystem Y (oldC c) ≡ true → elem c l ≡ true
 
     pub record Can (l : List ℕ) (s : ℕ) : Type 0 where
       pub is : isSystem Y s ≡ true
-      pub new : elem (gc s) l ≡ false
-      pub closed : Closed (gc s ∷ l)
+      pub new : elem (newC s) l ≡ false
+      pub closed : Closed (newC s ∷ l)
 
     record Out (out : List ℕ) : Type 0 where
       sys : (n : ℕ) → elem n out ≡ true → isSystem Y n ≡ true
@@ -176,17 +176,17 @@ module _ (b : Book) (g : Good b) (ss : List ℕ) (ks : Lists ss (isSystem (b .sy
     spec : (s : ℕ) → isSystem Y s ≡ true → specified (b .specs) s ≡ true
     spec s k = g .b2 .sys-spec s k
 
-    out-closed : (out : List ℕ) → Out out → Closed (map gc out)
+    out-closed : (out : List ℕ) → Out out → Closed (map newC out)
     out-closed out o s c e u k =
-        let r = elem-map-out gc out s e in
-        let z : fc s ≡ r .0 = ap fc (sym (r .2)) ∙ re .ofC .back (r .0) (spec (r .0) (o .sys (r .0) (r .1))) in
-        let i = o .shut (r .0) (fc c) (r .1) (ap (λ (a : ℕ). usable Y a (fc c)) (sym z) ∙ u) k in
-        subst (λ (a : ℕ). elem a (map gc out) ≡ true) (re .ofC .forth c (spec (fc c) k)) (elem-map-in gc out (fc c) i)
+        let r = elem-map-out newC out s e in
+        let z : oldC s ≡ r .0 = ap oldC (sym (r .2)) ∙ re .ofC .back (r .0) (spec (r .0) (o .sys (r .0) (r .1))) in
+        let i = o .shut (r .0) (oldC c) (r .1) (ap (λ (a : ℕ). usable Y a (oldC c)) (sym z) ∙ u) k in
+        subst (λ (a : ℕ). elem a (map newC out) ≡ true) (re .ofC .forth c (spec (oldC c) k)) (elem-map-in newC out (oldC c) i)
 
-    out-new : (out : List ℕ) → Out out → (x : ℕ) → isSystem Y x ≡ true → elem x out ≡ false → elem (gc x) (map gc out) ≡ false
+    out-new : (out : List ℕ) → Out out → (x : ℕ) → isSystem Y x ≡ true → elem x out ≡ false → elem (newC x) (map newC out) ≡ false
     out-new out o x k e = fails _ (λ t.
-        let r = elem-map-out gc out (gc x) t in
-        let z : r .0 ≡ x = sym (re .ofC .back (r .0) (spec (r .0) (o .sys (r .0) (r .1)))) ∙ ap fc (r .2)
+        let r = elem-map-out newC out (newC x) t in
+        let z : r .0 ≡ x = sym (re .ofC .back (r .0) (spec (r .0) (o .sys (r .0) (r .1)))) ∙ ap oldC (r .2)
         ∙ re .ofC .back x (spec x k) in
         clash {A = ⊥} (subst (λ (a : ℕ). elem a out ≡ true) z (r .1)) e)
 
@@ -200,19 +200,19 @@ module _ (b : Book) (g : Good b) (ss : List ℕ) (ks : Lists ss (isSystem (b .sy
       ];
     }
 
-    fine-from : (n : ℕ) (out : List ℕ) → Out out → Fine gc Can (map gc out) (systemsFrom n Y ss out)
-    fine-from zero out o = unfold systemsFrom in none-left
-    fine-from (suc n) out o =
+    in-turn-from : (n : ℕ) (out : List ℕ) → Out out → InTurn newC Can (map newC out) (systemsFrom n Y ss out)
+    in-turn-from zero out o = unfold systemsFrom in none-left
+    in-turn-from (suc n) out o =
         elim (option? (nextSystem out)) [
-          | inl z ↦ subst (Fine gc Can (map gc out)) (sym (from-none n Y ss out z)) none-left
+          | inl z ↦ subst (InTurn newC Can (map newC out)) (sym (from-none n Y ss out z)) none-left
           | inr q ↦ (let x = q .0 in let r = next-some out x (q .1) in let o′ = out-more out o x (r .0) (r .2) in
-              subst (Fine gc Can (map gc out)) (sym (from-some n Y ss out x (q .1)))
+              subst (InTurn newC Can (map newC out)) (sym (from-some n Y ss out x (q .1)))
               (one-more (record { is = r .0; new = out-new out o x (r .0) (r .1); closed = out-closed (x ∷ out) o′ })
-              (fine-from n (x ∷ out) o′)))
+              (in-turn-from n (x ∷ out) o′)))
         ]
 
-    pub systems-fine : Fine gc Can [] (systemsFrom components Y ss [])
-    systems-fine = fine-from components []
+    pub systems-in-turn : InTurn newC Can [] (systemsFrom components Y ss [])
+    systems-in-turn = in-turn-from components []
         (record { sys = λ n e. clash e (unfold elem in refl); shut = λ s c e u k. clash e (unfold elem in refl) })
 
     pub systems-all : (s : ℕ) → isSystem Y s ≡ true → elem s (systemsFrom components Y ss []) ≡ true

@@ -24,19 +24,19 @@ use Rattle.text.specs.Written.{written}
 use Rattle.text_theorems.specs.Listed.{every-of, lists-nonEmpty}
 use Rattle.text_theorems.specs.Mentions.{cs-lists, li-lists, lk-lists, lm-lists, lp-lists, lq-lists, lu-lists, lv-lists}
 use Rattle.text_theorems.specs.Mentions.{ms-lists, valid-some, ys-lists}
-use Rattle.text_theorems.specs.ModStep.{ModLists, bm, mod-after, mod-yes, modK}
-use Rattle.text_theorems.specs.NewNumbers.{T, T-fits, renumbering}
+use Rattle.text_theorems.specs.ModStep.{ModLists, mod-after, mod-yes, modCommand, withModules}
+use Rattle.text_theorems.specs.NewNumbers.{T-fits, reachedTables, renumbering}
 use Rattle.text_theorems.specs.NewPlaces.{new}
 use Rattle.text_theorems.specs.Numbered.{nMod, nSpec, nSys}
-use Rattle.text_theorems.specs.Order.{Can, systems-all, systems-fine}
-use Rattle.text_theorems.specs.Phases.{Step, list-fine, one-mark, phase, pushed, pushed-in}
+use Rattle.text_theorems.specs.Order.{Can, systems-all, systems-in-turn}
+use Rattle.text_theorems.specs.Phases.{Step, list-in-turn, one-mark, phase, pushed, pushed-in}
 use Rattle.text_theorems.specs.ReadsBack.{Writable, aMod, aSpec, aSys, okMember, okMod, okSys, okVersion}
 use Rattle.text_theorems.specs.Renamed.{Renumbering}
 use Rattle.text_theorems.specs.Renumbered.{isModule′, isSystem′, newModules, newSpecs, newSystems, only-all, only-none}
 use Rattle.text_theorems.specs.Renumbered.{specified′}
-use Rattle.text_theorems.specs.Runs.{Plan, plan-append, plan-runs, runs-length, runs-text}
-use Rattle.text_theorems.specs.SpecStep.{SpecLists, bs, spec-after, spec-yes, specK}
-use Rattle.text_theorems.specs.SysStep.{SysLists, by, sys-after, sys-yes, sysK, sysMembers}
+use Rattle.text_theorems.specs.Runs.{Accepts, accepts-append, accepts-runs, runs-length, runs-text}
+use Rattle.text_theorems.specs.SpecStep.{SpecLists, spec-after, spec-yes, specCommand, withSpecs}
+use Rattle.text_theorems.specs.SysStep.{SysLists, sys-after, sys-yes, sysCommand, sysMembers, withSystems}
 use Rattle.text_theorems.specs.TextLaws.{nonEmpty-map, or-at, same-out}
 use Rattle.theorems.specs.Frame.{composition-out, mem-usable}
 use Rattle.theorems.specs.Good.{Good}
@@ -53,17 +53,17 @@ module _ (b : Book) (t : Tables) (g : Good b) (nm : Named (record { book = b; ta
   abbrev Y : Systems
   Y = b .systems
 
-  abbrev U : Tables
-  U = T b t g nm
+  abbrev reached : Tables
+  reached = reachedTables b t g nm
 
   abbrev re : Renumbering S M
   re = renumbering b t g nm
 
-  abbrev fc : ℕ → ℕ
-  fc = re .fc
+  abbrev oldC : ℕ → ℕ
+  oldC = re .oldC
 
-  abbrev gc : ℕ → ℕ
-  gc = re .gc
+  abbrev newC : ℕ → ℕ
+  newC = re .newC
 
   abbrev lp : ℕ → List ℕ
   lp c = byName (t .facs) facilities (provides S c)
@@ -126,51 +126,52 @@ module _ (b : Book) (t : Tables) (g : Good b) (nm : Named (record { book = b; ta
       (every-of okVersion _ (lv c) (λ v k. and-in _ _ (nm .version c v (sym (lv-lists b t g nm c .each v) ∙ k))
       (every-of validName (nameAt (t .facs)) (lq c v) (λ f j. nm .required c v f (sym (lq-lists b t g nm c v .each f) ∙ j)))))
       (nonEmpty-map _ (lv c) (lists-nonEmpty (lv c) _ (lv-lists b t g nm c) _ (g .b1 .std-in c e)))
-      (one-mark (nameAt (t .vers)) _ (standard S c) (lv c) (lv-lists b t g nm c .one) (lv-lists b t g nm c .each (standard S c)
+      (one-mark (nameAt (t .vers)) _ (standard S c) (lv c) (lv-lists b t g nm c .once) (lv-lists b t g nm c .each (standard S c)
       ∙ g .b1 .std-in c e)
       (λ n k z. nm .vers-once n (standard S c) (valid-some _ (nm .version c n (sym (lv-lists b t g nm c .each n) ∙ k)))
       (same-out _ _ z)))
 
-  abbrev BS : List ℕ → Book
-  BS = bs b g re
+  abbrev specsIn : List ℕ → Book
+  specsIn = withSpecs b g re
 
-  abbrev BM : List ℕ → Book
-  BM = bm b g re
+  abbrev modulesIn : List ℕ → Book
+  modulesIn = withModules b g re
 
-  abbrev BY : List ℕ → Book
-  BY = by b g re
+  abbrev systemsIn : List ℕ → Book
+  systemsIn = withSystems b g re
 
-  abbrev specC : ℕ → Command
-  specC c = specK b g re c (specLists c)
+  abbrev specPut : ℕ → Command
+  specPut c = specCommand b g re c (specLists c)
 
-  abbrev modC : ℕ → Command
-  modC c = modK b g re c (modLists c)
+  abbrev modPut : ℕ → Command
+  modPut c = modCommand b g re c (modLists c)
 
-  abbrev sysC : ℕ → Command
-  sysC s = sysK b g re s (sysLists s)
+  abbrev sysPut : ℕ → Command
+  sysPut s = sysCommand b g re s (sysLists s)
 
   numberedSpec : Name × List Name → ℕ × List ℕ
-  numberedSpec x = (number (U .vers) (x .0), map (number (U .facs)) (x .1))
+  numberedSpec x = (number (reached .vers) (x .0), map (number (reached .facs)) (x .1))
 
-  spec-numbers : (c : ℕ) → specNumbered U (nameAt (t .comps) c) (facilityNames t (provides S c))
-      (map (λ v. (nameAt (t .vers) v, facilityNames t (requires S c v))) (lv c)) (nameAt (t .vers) (standard S c)) ≡ specC c
-  unfolding specNumbered specK facilityNames numbers new numberedSpec
+  spec-numbers : (c : ℕ) → specNumbered reached (nameAt (t .comps) c) (facilityNames t (provides S c))
+      (map (λ v. (nameAt (t .vers) v, facilityNames t (requires S c v))) (lv c)) (nameAt (t .vers) (standard S c)) ≡ specPut c
+  unfolding specNumbered specCommand facilityNames numbers new numberedSpec
   spec-numbers c =
-      let e₁ = map-map (number (U .facs)) (nameAt (t .facs)) (lp c) in
+      let e₁ = map-map (number (reached .facs)) (nameAt (t .facs)) (lp c) in
       let e₂ = map-map numberedSpec (λ v. (nameAt (t .vers) v, map (nameAt (t .facs)) (lq c v))) (lv c) in
       let e₃ = ap {A = ℕ → ℕ × List ℕ} (λ f. map f (lv c))
-      (λ i v. (number (U .vers) (nameAt (t .vers) v), map-map (number (U .facs)) (nameAt (t .facs)) (lq c v) i)) in
-      λ i. ADD-SPEC (number (U .comps) (nameAt (t .comps) c)) (e₁ i) ((e₂ ∙ e₃) i)
-      (number (U .vers) (nameAt (t .vers) (standard S c)))
+      (λ i v. (number (reached .vers) (nameAt (t .vers) v), map-map (number (reached .facs)) (nameAt (t .facs)) (lq c v) i)) in
+      λ i. ADD-SPEC (number (reached .comps) (nameAt (t .comps) c)) (e₁ i) ((e₂ ∙ e₃) i)
+      (number (reached .vers) (nameAt (t .vers) (standard S c)))
 
-  spec-step : (l : List ℕ) (c : ℕ) → (specified S c ≡ true) × (elem (gc c) l ≡ false) → Step U gc BS (specOf b t) l c
+  spec-step : (l : List ℕ) (c : ℕ) → (specified S c ≡ true) × (elem (newC c) l ≡ false)
+      → Step reached newC specsIn (specOf b t) l c
   unfolding specOf
   spec-step l c h = record {
     K = _;
     writable = spec-writable c (h .0);
     numbered = nSpec;
-    yes′ = ap (answer (BS l)) (spec-numbers c) ∙ spec-yes b g re c (specLists c) l (h .0) (h .1);
-    gives = ap (after (BS l)) (spec-numbers c) ∙ spec-after b g re c (specLists c) l (h .0) (h .1);
+    yes′ = ap (answer (specsIn l)) (spec-numbers c) ∙ spec-yes b g re c (specLists c) l (h .0) (h .1);
+    gives = ap (after (specsIn l)) (spec-numbers c) ∙ spec-after b g re c (specLists c) l (h .0) (h .1);
   }
 
   -- ---- modules
@@ -187,22 +188,23 @@ module _ (b : Book) (t : Tables) (g : Good b) (nm : Named (record { book = b; ta
       ∙ g .b1 .std-in c (g .b2 .mod-spec c e))))
 
   numberedMod : Name × Name → ℕ × ℕ
-  numberedMod x = (number (U .vers) (x .0), number (U .impls) (x .1))
+  numberedMod x = (number (reached .vers) (x .0), number (reached .impls) (x .1))
 
-  mod-numbers : (c : ℕ) → modNumbered U (nameAt (t .comps) c)
-      (map (λ v. (nameAt (t .vers) v, nameAt (t .impls) (im c v))) (li c)) ≡ modC c
-  unfolding modNumbered modK new numberedMod
-  mod-numbers c = ap (ADD-MOD (number (U .comps) (nameAt (t .comps) c)))
+  mod-numbers : (c : ℕ) → modNumbered reached (nameAt (t .comps) c)
+      (map (λ v. (nameAt (t .vers) v, nameAt (t .impls) (im c v))) (li c)) ≡ modPut c
+  unfolding modNumbered modCommand new numberedMod
+  mod-numbers c = ap (ADD-MOD (number (reached .comps) (nameAt (t .comps) c)))
       (map-map numberedMod (λ v. (nameAt (t .vers) v, nameAt (t .impls) (im c v))) (li c))
 
-  mod-step : (l : List ℕ) (c : ℕ) → (isModule M c ≡ true) × (elem (gc c) l ≡ false) → Step U gc BM (modOf b t) l c
+  mod-step : (l : List ℕ) (c : ℕ) → (isModule M c ≡ true) × (elem (newC c) l ≡ false)
+      → Step reached newC modulesIn (modOf b t) l c
   unfolding modOf
   mod-step l c h = record {
     K = _;
     writable = mod-writable c (h .0);
     numbered = nMod;
-    yes′ = ap (answer (BM l)) (mod-numbers c) ∙ mod-yes b g re c (modLists c) l (h .0) (h .1);
-    gives = ap (after (BM l)) (mod-numbers c) ∙ mod-after b g re c (modLists c) l (h .0) (h .1);
+    yes′ = ap (answer (modulesIn l)) (mod-numbers c) ∙ mod-yes b g re c (modLists c) l (h .0) (h .1);
+    gives = ap (after (modulesIn l)) (mod-numbers c) ∙ mod-after b g re c (modLists c) l (h .0) (h .1);
   }
 
   -- ---- systems
@@ -241,36 +243,36 @@ module _ (b : Book) (t : Tables) (g : Good b) (nm : Named (record { book = b; ta
       ∙ g .b1 .std-in s (g .b2 .sys-spec s e))))
 
   numberedMember : Name × Option Name → ℕ × Option ℕ
-  numberedMember m = (number (U .comps) (m .0), optionMap (number (U .vers)) (m .1))
+  numberedMember m = (number (reached .comps) (m .0), optionMap (number (reached .vers)) (m .1))
 
   numberedSys : Name × NamedMembers → ℕ × List (ℕ × Option ℕ)
-  numberedSys x = (number (U .vers) (x .0), numberedMembers U (x .1))
+  numberedSys x = (number (reached .vers) (x .0), numberedMembers reached (x .1))
 
-  members-numbers : (s v : ℕ) → numberedMembers U (membersOf b t s v) ≡ sysMembers b g re s (sysLists s) v
+  members-numbers : (s v : ℕ) → numberedMembers reached (membersOf b t s v) ≡ sysMembers b g re s (sysLists s) v
   unfolding numberedMembers membersOf sysMembers new numberedMember optionMap
   members-numbers s v = map-map numberedMember (λ c. (nameAt (t .comps) c, some (nameAt (t .vers) (mv s v c)))) (lm s v)
 
-  sys-numbers : (s : ℕ) → sysNumbered U (nameAt (t .comps) s) (map (nameAt (t .comps)) (lu s))
-      (map (λ v. (nameAt (t .vers) v, membersOf b t s v)) (lk s)) ≡ sysC s
-  unfolding sysNumbered sysK numbers new numberedSys
+  sys-numbers : (s : ℕ) → sysNumbered reached (nameAt (t .comps) s) (map (nameAt (t .comps)) (lu s))
+      (map (λ v. (nameAt (t .vers) v, membersOf b t s v)) (lk s)) ≡ sysPut s
+  unfolding sysNumbered sysCommand numbers new numberedSys
   sys-numbers s =
-      let e₁ = map-map (number (U .comps)) (nameAt (t .comps)) (lu s) in
+      let e₁ = map-map (number (reached .comps)) (nameAt (t .comps)) (lu s) in
       let e₂ = map-map numberedSys (λ v. (nameAt (t .vers) v, membersOf b t s v)) (lk s) in
       let e₃ = ap {A = ℕ → ℕ × List (ℕ × Option ℕ)} (λ f. map f (lk s))
-      (λ i v. (number (U .vers) (nameAt (t .vers) v), members-numbers s v i)) in
-      λ i. ADD-SYS (number (U .comps) (nameAt (t .comps) s)) (e₁ i) ((e₂ ∙ e₃) i)
+      (λ i v. (number (reached .vers) (nameAt (t .vers) v), members-numbers s v i)) in
+      λ i. ADD-SYS (number (reached .comps) (nameAt (t .comps) s)) (e₁ i) ((e₂ ∙ e₃) i)
 
-  abbrev CanY : List ℕ → ℕ → Type 0
-  CanY = Can b g (byName (t .comps) components (isSystem Y)) (ys-lists b t g nm) re
+  abbrev CanGo : List ℕ → ℕ → Type 0
+  CanGo = Can b g (byName (t .comps) components (isSystem Y)) (ys-lists b t g nm) re
 
-  sys-step : (l : List ℕ) (s : ℕ) → CanY l s → Step U gc BY (sysOf b t) l s
+  sys-step : (l : List ℕ) (s : ℕ) → CanGo l s → Step reached newC systemsIn (sysOf b t) l s
   unfolding sysOf
   sys-step l s h = record {
     K = _;
     writable = sys-writable s (h .is);
     numbered = nSys;
-    yes′ = ap (answer (BY l)) (sys-numbers s) ∙ sys-yes b g re s (sysLists s) l (h .is) (h .new) (h .closed);
-    gives = ap (after (BY l)) (sys-numbers s) ∙ sys-after b g re s (sysLists s) l (h .is) (h .new) (h .closed);
+    yes′ = ap (answer (systemsIn l)) (sys-numbers s) ∙ sys-yes b g re s (sysLists s) l (h .is) (h .new) (h .closed);
+    gives = ap (after (systemsIn l)) (sys-numbers s) ∙ sys-after b g re s (sysLists s) l (h .is) (h .new) (h .closed);
   }
 
   -- ---- all of it
@@ -284,77 +286,77 @@ module _ (b : Book) (t : Tables) (g : Good b) (nm : Named (record { book = b; ta
   abbrev ss : List ℕ
   ss = systemsFrom components Y (byName (t .comps) components (isSystem Y)) []
 
-  abbrev PS : Specs
-  PS = newSpecs b re
+  abbrev specs′ : Specs
+  specs′ = newSpecs b re
 
-  abbrev PM : Modules
-  PM = newModules b re
+  abbrev modules′ : Modules
+  modules′ = newModules b re
 
-  abbrev PY : Systems
-  PY = newSystems b re
+  abbrev systems′ : Systems
+  systems′ = newSystems b re
 
   -- the book that is reached: the same under the new numbers
   abbrev pub rebuilt : Book
-  rebuilt = record { specs = PS; modules = PM; systems = PY }
+  rebuilt = record { specs = specs′; modules = modules′; systems = systems′ }
 
   back-in : (test : ℕ → Bool) → ((n : ℕ) → test n ≡ true → specified S n ≡ true) → (l : List ℕ)
-      → ((n : ℕ) → test n ≡ true → elem n l ≡ true) → (m : ℕ) → test (fc m) ≡ true → elem m (pushed gc l []) ≡ true
-  back-in test u l h m e = subst (λ (k : ℕ). elem k (pushed gc l []) ≡ true) (re .ofC .forth m (u _ e))
-      (pushed-in gc l [] (fc m) (h _ e))
+      → ((n : ℕ) → test n ≡ true → elem n l ≡ true) → (m : ℕ) → test (oldC m) ≡ true → elem m (pushed newC l []) ≡ true
+  back-in test u l h m e = subst (λ (k : ℕ). elem k (pushed newC l []) ≡ true) (re .ofC .forth m (u _ e))
+      (pushed-in newC l [] (oldC m) (h _ e))
 
-  start : BS [] ≡ empty
-  unfolding bs
-  start = λ i. record { specs = only-none PS i; modules = λ c. none; systems = λ c. none }
+  start : specsIn [] ≡ empty
+  unfolding withSpecs
+  start = λ i. record { specs = only-none specs′ i; modules = λ c. none; systems = λ c. none }
 
-  specs-done : BS (pushed gc cs []) ≡ BM []
-  unfolding bs bm
+  specs-done : specsIn (pushed newC cs []) ≡ modulesIn []
+  unfolding withSpecs withModules
   specs-done =
-      let e = only-all (pushed gc cs []) PS
+      let e = only-all (pushed newC cs []) specs′
       (λ m k. back-in (specified S) (λ n z. z) cs (λ n z. cs-lists b t g nm .each n ∙ z) m (sym (specified′ b re m)
       ∙ (unfold specified in k))) in
-      λ i. record { specs = e i; modules = sym (only-none PM) i; systems = λ c. none }
+      λ i. record { specs = e i; modules = sym (only-none modules′) i; systems = λ c. none }
 
-  modules-done : BM (pushed gc ms []) ≡ BY []
-  unfolding bm by
+  modules-done : modulesIn (pushed newC ms []) ≡ systemsIn []
+  unfolding withModules withSystems
   modules-done =
-      let e = only-all (pushed gc ms []) PM
+      let e = only-all (pushed newC ms []) modules′
       (λ m k. back-in (isModule M) (λ n z. g .b2 .mod-spec n z) ms (λ n z. ms-lists b t g nm .each n ∙ z) m
       (sym (isModule′ b re m) ∙ (unfold isModule in k))) in
-      λ i. record { specs = PS; modules = e i; systems = sym (only-none PY) i }
+      λ i. record { specs = specs′; modules = e i; systems = sym (only-none systems′) i }
 
-  systems-done : BY (pushed gc ss []) ≡ rebuilt
-  unfolding by
+  systems-done : systemsIn (pushed newC ss []) ≡ rebuilt
+  unfolding withSystems
   systems-done =
-      let e = only-all (pushed gc ss []) PY (λ m k. back-in (isSystem Y) (λ n z. g .b2 .sys-spec n z) ss
+      let e = only-all (pushed newC ss []) systems′ (λ m k. back-in (isSystem Y) (λ n z. g .b2 .sys-spec n z) ss
       (λ n z. systems-all b g (byName (t .comps) components (isSystem Y)) (ys-lists b t g nm) re n z) m
       (sym (isSystem′ b re m) ∙ (unfold isSystem in k))) in
-      λ i. record { specs = PS; modules = PM; systems = e i }
+      λ i. record { specs = specs′; modules = modules′; systems = e i }
 
-  specs-plan : Plan U empty (map (specOf b t) cs) (BM [])
-  specs-plan = subst (λ (x : Book). Plan U x (map (specOf b t) cs) (BM [])) start
-      (subst (Plan U (BS []) (map (specOf b t) cs)) specs-done
-      (phase U gc BS (specOf b t) _ spec-step
-      (list-fine (re .ofC) (specified S) (λ n e. e) cs [] (cs-lists b t g nm .one)
+  specs-accepted : Accepts reached empty (map (specOf b t) cs) (modulesIn [])
+  specs-accepted = subst (λ (x : Book). Accepts reached x (map (specOf b t) cs) (modulesIn [])) start
+      (subst (Accepts reached (specsIn []) (map (specOf b t) cs)) specs-done
+      (phase reached newC specsIn (specOf b t) _ spec-step
+      (list-in-turn (re .ofC) (specified S) (λ n e. e) cs [] (cs-lists b t g nm .once)
       (λ n e. (sym (cs-lists b t g nm .each n) ∙ e, (unfold elem in refl))))))
 
-  modules-plan : Plan U (BM []) (map (modOf b t) ms) (BY [])
-  modules-plan = subst (Plan U (BM []) (map (modOf b t) ms)) modules-done
-      (phase U gc BM (modOf b t) _ mod-step
-      (list-fine (re .ofC) (isModule M) (λ n e. g .b2 .mod-spec n e) ms [] (ms-lists b t g nm .one)
+  modules-accepted : Accepts reached (modulesIn []) (map (modOf b t) ms) (systemsIn [])
+  modules-accepted = subst (Accepts reached (modulesIn []) (map (modOf b t) ms)) modules-done
+      (phase reached newC modulesIn (modOf b t) _ mod-step
+      (list-in-turn (re .ofC) (isModule M) (λ n e. g .b2 .mod-spec n e) ms [] (ms-lists b t g nm .once)
       (λ n e. (sym (ms-lists b t g nm .each n) ∙ e, (unfold elem in refl)))))
 
-  systems-plan : Plan U (BY []) (map (sysOf b t) ss) rebuilt
-  systems-plan = subst (Plan U (BY []) (map (sysOf b t) ss)) systems-done
-      (phase U gc BY (sysOf b t) CanY sys-step
-      (systems-fine b g (byName (t .comps) components (isSystem Y)) (ys-lists b t g nm) re))
+  systems-accepted : Accepts reached (systemsIn []) (map (sysOf b t) ss) rebuilt
+  systems-accepted = subst (Accepts reached (systemsIn []) (map (sysOf b t) ss)) systems-done
+      (phase reached newC systemsIn (sysOf b t) CanGo sys-step
+      (systems-in-turn b g (byName (t .comps) components (isSystem Y)) (ys-lists b t g nm) re))
 
-  whole-plan : Plan U empty (asCommands b t) rebuilt
+  all-accepted : Accepts reached empty (asCommands b t) rebuilt
   unfolding asCommands systemsInOrder
-  whole-plan = plan-append specs-plan (plan-append modules-plan systems-plan)
+  all-accepted = accepts-append specs-accepted (accepts-append modules-accepted systems-accepted)
 
   -- every command is accepted, and the book under the new numbers is reached
-  pub text-read : session (written b t) ≡ (accepted 1 (length (asCommands b t)), record { book = rebuilt; tables = U })
-  unfolding session written T
+  pub text-read : session (written b t) ≡ (accepted 1 (length (asCommands b t)), record { book = rebuilt; tables = reached })
+  unfolding session written reachedTables
   text-read =
-      let r = plan-runs U (T-fits b t g nm) whole-plan noNames refl in
+      let r = accepts-runs reached (T-fits b t g nm) all-accepted noNames refl in
       runs-text r _ 1 (runs-length r)

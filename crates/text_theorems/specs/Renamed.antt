@@ -63,30 +63,31 @@ pub data UsedI (M : Modules) (i : ℕ) : Type 0 where
 -- New numbers for a book: of its components, versions, facilities and implementations. Each of the functions f is from new to old
 -- numbers, and each g from old to new.
 pub record Renumbering (S : Specs) (M : Modules) : Type 0 where
-  pub fc : ℕ → ℕ
-  pub gc : ℕ → ℕ
-  pub fv : ℕ → ℕ
-  pub gv : ℕ → ℕ
-  pub ff : ℕ → ℕ
-  pub gf : ℕ → ℕ
-  pub fi : ℕ → ℕ
-  pub gi : ℕ → ℕ
-  pub ofC : Renaming fc gc components (UsedC S)
-  pub ofV : Renaming fv gv versions (UsedV S)
-  pub ofF : Renaming ff gf facilities (UsedF S)
-  pub ofI : Renaming fi gi implementations (UsedI M)
+  pub oldC : ℕ → ℕ
+  pub newC : ℕ → ℕ
+  pub oldV : ℕ → ℕ
+  pub newV : ℕ → ℕ
+  pub oldF : ℕ → ℕ
+  pub newF : ℕ → ℕ
+  pub oldI : ℕ → ℕ
+  pub newI : ℕ → ℕ
+  pub ofC : Renaming oldC newC components (UsedC S)
+  pub ofV : Renaming oldV newV versions (UsedV S)
+  pub ofF : Renaming oldF newF facilities (UsedF S)
+  pub ofI : Renaming oldI newI implementations (UsedI M)
 
 -- the specs S₁ and the systems Y₁ are, by the new numbers, as in the specs S and the systems Y
 pub record Like (S S₁ : Specs) (M : Modules) (Y Y₁ : Systems) (re : Renumbering S M) : Type 0 where
-  pub prov : (c f : ℕ) → provides S₁ c f ≡ provides S (re .fc c) (re .ff f)
-  pub vers : (c v : ℕ) → hasVersion S₁ c v ≡ hasVersion S (re .fc c) (re .fv v)
-  pub req : (c v f : ℕ) → requires S₁ c v f ≡ requires S (re .fc c) (re .fv v) (re .ff f)
-  pub sys : (s : ℕ) → isSystem Y₁ s ≡ true → isSystem Y (re .fc s) ≡ true
-  pub uses : (s c : ℕ) → isSystem Y₁ s ≡ true → usable Y₁ s c ≡ usable Y (re .fc s) (re .fc c)
-  pub comps : (s v : ℕ) → isSystem Y₁ s ≡ true → composed Y₁ s v ≡ composed Y (re .fc s) (re .fv v)
+  pub prov : (c f : ℕ) → provides S₁ c f ≡ provides S (re .oldC c) (re .oldF f)
+  pub vers : (c v : ℕ) → hasVersion S₁ c v ≡ hasVersion S (re .oldC c) (re .oldV v)
+  pub req : (c v f : ℕ) → requires S₁ c v f ≡ requires S (re .oldC c) (re .oldV v) (re .oldF f)
+  pub sys : (s : ℕ) → isSystem Y₁ s ≡ true → isSystem Y (re .oldC s) ≡ true
+  pub uses : (s c : ℕ) → isSystem Y₁ s ≡ true → usable Y₁ s c ≡ usable Y (re .oldC s) (re .oldC c)
+  pub comps : (s v : ℕ) → isSystem Y₁ s ≡ true → composed Y₁ s v ≡ composed Y (re .oldC s) (re .oldV v)
   pub members : (s v c : ℕ) → isSystem Y₁ s ≡ true → member Y₁ s v c
-      ≡ optionMap (re .gv) (member Y (re .fc s) (re .fv v) (re .fc c))
-  pub kind : (s c : ℕ) → isSystem Y₁ s ≡ true → usable Y (re .fc s) (re .fc c) ≡ true → isSystem Y₁ c ≡ isSystem Y (re .fc c)
+      ≡ optionMap (re .newV) (member Y (re .oldC s) (re .oldV v) (re .oldC c))
+  pub kind : (s c : ℕ) → isSystem Y₁ s ≡ true → usable Y (re .oldC s) (re .oldC c) ≡ true → isSystem Y₁ c
+      ≡ isSystem Y (re .oldC c)
 
 module _ (b : Book) (g : Good b) (S₁ : Specs) (Y₁ : Systems) (re : Renumbering (b .specs) (b .modules))
     (K : Like (b .specs) S₁ (b .modules) (b .systems) Y₁ re) where
@@ -96,38 +97,38 @@ module _ (b : Book) (g : Good b) (S₁ : Specs) (Y₁ : Systems) (re : Renumberi
   abbrev Y : Systems
   Y = b .systems
 
-  abbrev fc : ℕ → ℕ
-  fc = re .fc
+  abbrev oldC : ℕ → ℕ
+  oldC = re .oldC
 
-  abbrev gc : ℕ → ℕ
-  gc = re .gc
+  abbrev newC : ℕ → ℕ
+  newC = re .newC
 
-  abbrev fv : ℕ → ℕ
-  fv = re .fv
+  abbrev oldV : ℕ → ℕ
+  oldV = re .oldV
 
-  abbrev gv : ℕ → ℕ
-  gv = re .gv
+  abbrev newV : ℕ → ℕ
+  newV = re .newV
 
-  abbrev ff : ℕ → ℕ
-  ff = re .ff
+  abbrev oldF : ℕ → ℕ
+  oldF = re .oldF
 
-  abbrev gf : ℕ → ℕ
-  gf = re .gf
+  abbrev newF : ℕ → ℕ
+  newF = re .newF
 
-  anyC : (Q : ℕ → Bool) → ((n : ℕ) → Q n ≡ true → specified S n ≡ true) → any components (λ m. Q (fc m)) ≡ any components Q
+  anyC : (Q : ℕ → Bool) → ((n : ℕ) → Q n ≡ true → specified S n ≡ true) → any components (λ m. Q (oldC m)) ≡ any components Q
   anyC Q h = any-through (re .ofC) Q (λ n t. (h n t, g .specLimits .component< n (h n t)))
 
-  allC : (Q : ℕ → Bool) → ((n : ℕ) → Q n ≡ false → specified S n ≡ true) → all components (λ m. Q (fc m)) ≡ all components Q
+  allC : (Q : ℕ → Bool) → ((n : ℕ) → Q n ≡ false → specified S n ≡ true) → all components (λ m. Q (oldC m)) ≡ all components Q
   allC Q h = all-through (re .ofC) Q (λ n t. (h n t, g .specLimits .component< n (h n t)))
 
   usedF< : (f : ℕ) → UsedF S f → f < facilities
   usedF< f (providedBy c t) = g .specLimits .provided< c f t
   usedF< f (requiredBy c v t) = g .specLimits .required< c v f t
 
-  allF : (Q : ℕ → Bool) → ((n : ℕ) → Q n ≡ false → UsedF S n) → all facilities (λ m. Q (ff m)) ≡ all facilities Q
+  allF : (Q : ℕ → Bool) → ((n : ℕ) → Q n ≡ false → UsedF S n) → all facilities (λ m. Q (oldF m)) ≡ all facilities Q
   allF Q h = all-through (re .ofF) Q (λ n t. (h n t, usedF< n (h n t)))
 
-  anyF : (Q : ℕ → Bool) → ((n : ℕ) → Q n ≡ true → UsedF S n) → any facilities (λ m. Q (ff m)) ≡ any facilities Q
+  anyF : (Q : ℕ → Bool) → ((n : ℕ) → Q n ≡ true → UsedF S n) → any facilities (λ m. Q (oldF m)) ≡ any facilities Q
   anyF Q h = any-through (re .ofF) Q (λ n t. (h n t, usedF< n (h n t)))
 
   member-spec : (s v c w : ℕ) → member Y s v c ≡ some w → specified S c ≡ true
@@ -137,121 +138,130 @@ module _ (b : Book) (g : Good b) (S₁ : Specs) (Y₁ : Systems) (re : Renumberi
   has-spec s v c t h = let q = has-out _ t h in member-spec s v c (q .0) (q .1)
 
   -- the new version of a member stands for its old one
-  member-back : (s v c w : ℕ) → member Y s v c ≡ some w → fv (gv w) ≡ w
+  member-back : (s v c w : ℕ) → member Y s v c ≡ some w → oldV (newV w) ≡ w
   member-back s v c w e = re .ofV .back w (versionOf c (mem-usable S Y (g .systemLimits) (g .b5) s v c w e .1))
 
   -- the same, of a test at a member's version
   has-member : (s v c : ℕ) → isSystem Y₁ s ≡ true → (t₁ t : ℕ → Bool)
-      → ((w : ℕ) → member Y (fc s) (fv v) (fc c) ≡ some w → t₁ (gv w) ≡ t w)
-      → has (member Y₁ s v c) t₁ ≡ has (member Y (fc s) (fv v) (fc c)) t
-  has-member s v c y t₁ t h = ap (λ (o : Option ℕ). has o t₁) (K .members s v c y) ∙ has-map gv _ t₁ ∙ has-cong _ h
+      → ((w : ℕ) → member Y (oldC s) (oldV v) (oldC c) ≡ some w → t₁ (newV w) ≡ t w)
+      → has (member Y₁ s v c) t₁ ≡ has (member Y (oldC s) (oldV v) (oldC c)) t
+  has-member s v c y t₁ t h = ap (λ (o : Option ℕ). has o t₁) (K .members s v c y) ∙ has-map newV _ t₁ ∙ has-cong _ h
 
-  needs-like : (n c w f : ℕ) → isSystem Y₁ c ≡ isSystem Y (fc c) → needsTo n S₁ Y₁ c w f ≡ needsTo n S Y (fc c) (fv w) (ff f)
+  needs-like : (n c w f : ℕ) → isSystem Y₁ c ≡ isSystem Y (oldC c) → needsTo n S₁ Y₁ c w f
+      ≡ needsTo n S Y (oldC c) (oldV w) (oldF f)
   unfolding needsTo
   needs-like zero c w f k = K .req c w f
   needs-like (suc n) c w f k =
-      if-cong (isSystem Y₁ c) (isSystem Y (fc c)) k
+      if-cong (isSystem Y₁ c) (isSystem Y (oldC c)) k
       (λ y. any-cong components (λ d. has-member c w d y _ _
-      (λ x e. needs-like n d (gv x) f (K .kind c d y (mem-usable S Y (g .systemLimits) (g .b5) (fc c) (fv w) (fc d) x e .0))
-      ∙ ap (λ (z : ℕ). needsTo n S Y (fc d) z (ff f)) (member-back (fc c) (fv w) (fc d) x e)))
-      ∙ anyC (λ d. has (member Y (fc c) (fv w) d) (λ x. needsTo n S Y d x (ff f))) (λ d t. has-spec (fc c) (fv w) d _ t))
+      (λ x e. needs-like n d (newV x) f (K .kind c d y
+      (mem-usable S Y (g .systemLimits) (g .b5) (oldC c) (oldV w) (oldC d) x e .0))
+      ∙ ap (λ (z : ℕ). needsTo n S Y (oldC d) z (oldF f)) (member-back (oldC c) (oldV w) (oldC d) x e)))
+      ∙ anyC (λ d. has (member Y (oldC c) (oldV w) d) (λ x. needsTo n S Y d x (oldF f)))
+      (λ d t. has-spec (oldC c) (oldV w) d _ t))
       (K .req c w f)
 
   is-system : (s v : ℕ) → composed Y₁ s v ≡ true → isSystem Y₁ s ≡ true
   is-system s v k = composed-system Y₁ s v k
 
-  r-like : (s v f : ℕ) → isSystem Y₁ s ≡ true → r S₁ Y₁ s v f ≡ r S Y (fc s) (fv v) (ff f)
+  r-like : (s v f : ℕ) → isSystem Y₁ s ≡ true → r S₁ Y₁ s v f ≡ r S Y (oldC s) (oldV v) (oldF f)
   unfolding r needs
   r-like s v f y =
       any-cong components (λ c. has-member s v c y _ _
-      (λ x e. needs-like components c (gv x) f
-      (K .kind s c y (mem-usable S Y (g .systemLimits) (g .b5) (fc s) (fv v) (fc c) x e .0))
-      ∙ ap (λ (z : ℕ). needsTo components S Y (fc c) z (ff f)) (member-back (fc s) (fv v) (fc c) x e)))
-      ∙ anyC (λ c. has (member Y (fc s) (fv v) c) (λ w. needsTo components S Y c w (ff f))) (λ c t. has-spec (fc s) (fv v) c _ t)
+      (λ x e. needs-like components c (newV x) f
+      (K .kind s c y (mem-usable S Y (g .systemLimits) (g .b5) (oldC s) (oldV v) (oldC c) x e .0))
+      ∙ ap (λ (z : ℕ). needsTo components S Y (oldC c) z (oldF f)) (member-back (oldC s) (oldV v) (oldC c) x e)))
+      ∙ anyC (λ c. has (member Y (oldC s) (oldV v) c) (λ w. needsTo components S Y c w (oldF f)))
+      (λ c t. has-spec (oldC s) (oldV v) c _ t)
 
-  is-like : (s v c : ℕ) → isSystem Y₁ s ≡ true → isMember Y₁ s v c ≡ isMember Y (fc s) (fv v) (fc c)
+  is-like : (s v c : ℕ) → isSystem Y₁ s ≡ true → isMember Y₁ s v c ≡ isMember Y (oldC s) (oldV v) (oldC c)
   unfolding isMember
-  is-like s v c y = ap isSome (K .members s v c y) ∙ optionMap-some gv _
+  is-like s v c y = ap isSome (K .members s v c y) ∙ optionMap-some newV _
 
   is-spec : (s v c : ℕ) → isMember Y s v c ≡ true → specified S c ≡ true
   unfolding isMember
   is-spec s v c t = let q = isSome-out _ t in member-spec s v c (q .0) (q .1)
 
-  p-like : (s v f : ℕ) → isSystem Y₁ s ≡ true → p S₁ Y₁ s v f ≡ p S Y (fc s) (fv v) (ff f)
+  p-like : (s v f : ℕ) → isSystem Y₁ s ≡ true → p S₁ Y₁ s v f ≡ p S Y (oldC s) (oldV v) (oldF f)
   unfolding p
   p-like s v f y =
       any-cong components (λ c. ap₂ _&_ (is-like s v c y) (K .prov c f))
-      ∙ anyC (λ c. isMember Y (fc s) (fv v) c & provides S c (ff f)) (λ c t. is-spec (fc s) (fv v) c (and-l _ _ t))
+      ∙ anyC (λ c. isMember Y (oldC s) (oldV v) c & provides S c (oldF f)) (λ c t. is-spec (oldC s) (oldV v) c (and-l _ _ t))
 
-  offered-like : (s f : ℕ) → isSystem Y₁ s ≡ true → offered S₁ Y₁ s f ≡ offered S Y (fc s) (ff f)
+  offered-like : (s f : ℕ) → isSystem Y₁ s ≡ true → offered S₁ Y₁ s f ≡ offered S Y (oldC s) (oldF f)
   unfolding offered
   offered-like s f y =
       any-cong components (λ c. ap₂ _&_ (K .uses s c y) (K .prov c f))
-      ∙ anyC (λ c. usable Y (fc s) c & provides S c (ff f)) (λ c t. g .b2 .use-spec (fc s) c (and-l _ _ t))
+      ∙ anyC (λ c. usable Y (oldC s) c & provides S c (oldF f)) (λ c t. g .b2 .use-spec (oldC s) c (and-l _ _ t))
 
   pub B3-like : B3 S₁ Y₁ ≡ true
   unfolding B3 B3at subset
   B3-like = system-in Y₁ _ (λ s y.
       all-cong facilities (λ f. ap₂ _⇒_ (K .prov s f) (offered-like s f y))
-      ∙ allF (λ f. provides S (fc s) f ⇒ offered S Y (fc s) f) (λ f t. providedBy (fc s) (imp-no _ _ t .0))
-      ∙ system-out Y _ (g .systemLimits) (g .b3) (fc s) (K .sys s y))
+      ∙ allF (λ f. provides S (oldC s) f ⇒ offered S Y (oldC s) f) (λ f t. providedBy (oldC s) (imp-no _ _ t .0))
+      ∙ system-out Y _ (g .systemLimits) (g .b3) (oldC s) (K .sys s y))
 
   -- a rule of compositions
-  each-like : (test test₁ : ℕ → ℕ → Bool) → ((s v : ℕ) → isSystem Y₁ s ≡ true → test₁ s v ≡ test (fc s) (fv v))
+  each-like : (test test₁ : ℕ → ℕ → Bool) → ((s v : ℕ) → isSystem Y₁ s ≡ true → test₁ s v ≡ test (oldC s) (oldV v))
       → eachComposition Y test ≡ true → eachComposition Y₁ test₁ ≡ true
   each-like test test₁ h b = composition-in Y₁ test₁ (λ s v k.
-      let y = is-system s v k in h s v y ∙ composition-out Y test (g .systemLimits) b (fc s) (fv v) (sym (K .comps s v y) ∙ k))
+      let y = is-system s v k in h s v y
+      ∙ composition-out Y test (g .systemLimits) b (oldC s) (oldV v) (sym (K .comps s v y) ∙ k))
 
   pub B5-like : B5 S₁ Y₁ ≡ true
   unfolding B5 B5at
   B5-like = each-like _ _ (λ s v y.
-      ap₂ _&_ (any-cong components (λ c. is-like s v c y) ∙ anyC (isMember Y (fc s) (fv v)) (λ c t. is-spec (fc s) (fv v) c t))
+      ap₂ _&_ (any-cong components (λ c. is-like s v c y)
+      ∙ anyC (isMember Y (oldC s) (oldV v)) (λ c t. is-spec (oldC s) (oldV v) c t))
       (all-cong components (λ c. ap (λ (o : Option ℕ). if-there o (λ w. usable Y₁ s c & hasVersion S₁ c w)) (K .members s v c y)
-      ∙ if-there-map gv _ _ ∙ if-there-cong (member Y (fc s) (fv v) (fc c))
-      (λ w e. ap₂ _&_ (K .uses s c y) (K .vers c (gv w) ∙ ap (hasVersion S (fc c)) (member-back (fc s) (fv v) (fc c) w e))))
-      ∙ allC (λ c. if-there (member Y (fc s) (fv v) c) (λ w. usable Y (fc s) c & hasVersion S c w))
-      (λ c t. (let q = there-no _ _ t in member-spec (fc s) (fv v) c (q .0) (q .1))))) (g .b5)
+      ∙ if-there-map newV _ _ ∙ if-there-cong (member Y (oldC s) (oldV v) (oldC c))
+      (λ w e. ap₂ _&_ (K .uses s c y) (K .vers c (newV w)
+      ∙ ap (hasVersion S (oldC c)) (member-back (oldC s) (oldV v) (oldC c) w e))))
+      ∙ allC (λ c. if-there (member Y (oldC s) (oldV v) c) (λ w. usable Y (oldC s) c & hasVersion S c w))
+      (λ c t. (let q = there-no _ _ t in member-spec (oldC s) (oldV v) c (q .0) (q .1))))) (g .b5)
 
-  eq-like : (c d : ℕ) → specified S (fc c) ≡ true → specified S (fc d) ≡ true → (c == d) ≡ (fc c == fc d)
-  eq-like c d hc hd = iff→≡ _ _ (λ e. ==-in _ _ (ap fc (==-out _ _ e)))
-      (λ e. ==-in _ _ (sym (re .ofC .forth c hc) ∙ ap gc (==-out _ _ e) ∙ re .ofC .forth d hd))
+  eq-like : (c d : ℕ) → specified S (oldC c) ≡ true → specified S (oldC d) ≡ true → (c == d) ≡ (oldC c == oldC d)
+  eq-like c d hc hd = iff→≡ _ _ (λ e. ==-in _ _ (ap oldC (==-out _ _ e)))
+      (λ e. ==-in _ _ (sym (re .ofC .forth c hc) ∙ ap newC (==-out _ _ e) ∙ re .ofC .forth d hd))
 
   -- a test of each member
-  member-like : (s v : ℕ) → isSystem Y₁ s ≡ true → (t₁ t : ℕ → Bool) → ((c : ℕ) → specified S (fc c) ≡ true → t₁ c ≡ t (fc c))
-      → all components (λ c. isMember Y₁ s v c ⇒ t₁ c) ≡ all components (λ c. isMember Y (fc s) (fv v) c ⇒ t c)
+  member-like : (s v : ℕ) → isSystem Y₁ s ≡ true → (t₁ t : ℕ → Bool) → ((c : ℕ) → specified S (oldC c) ≡ true → t₁ c ≡ t (oldC c))
+      → all components (λ c. isMember Y₁ s v c ⇒ t₁ c) ≡ all components (λ c. isMember Y (oldC s) (oldV v) c ⇒ t c)
   member-like s v y t₁ t h =
-      all-cong components (λ c. imp-like (is-like s v c y) (λ m. h c (is-spec (fc s) (fv v) (fc c) (sym (is-like s v c y) ∙ m))))
-      ∙ allC (λ c. isMember Y (fc s) (fv v) c ⇒ t c) (λ c e. is-spec (fc s) (fv v) c (imp-no _ _ e .0))
+      all-cong components (λ c. imp-like (is-like s v c y)
+      (λ m. h c (is-spec (oldC s) (oldV v) (oldC c) (sym (is-like s v c y) ∙ m))))
+      ∙ allC (λ c. isMember Y (oldC s) (oldV v) c ⇒ t c) (λ c e. is-spec (oldC s) (oldV v) c (imp-no _ _ e .0))
 
   -- a facility that both provide
   apart-like : (c d : ℕ) → disjoint facilities (provides S₁ c) (provides S₁ d)
-      ≡ disjoint facilities (provides S (fc c)) (provides S (fc d))
+      ≡ disjoint facilities (provides S (oldC c)) (provides S (oldC d))
   unfolding disjoint
   apart-like c d =
       all-cong facilities (λ f. ap₂ (λ (x y : Bool). x ⇒ ~ y) (K .prov c f) (K .prov d f))
-      ∙ allF (λ f. provides S (fc c) f ⇒ ~ (provides S (fc d) f)) (λ f e. providedBy (fc c) (imp-no _ _ e .0))
+      ∙ allF (λ f. provides S (oldC c) f ⇒ ~ (provides S (oldC d) f)) (λ f e. providedBy (oldC c) (imp-no _ _ e .0))
 
   pub B6-like : B6 S₁ Y₁ ≡ true
   unfolding B6 B6at
   B6-like = each-like _ _ (λ s v y.
       member-like s v y _ (λ c. all components
-      (λ d. isMember Y (fc s) (fv v) d ⇒ ~ (c == d) ⇒ disjoint facilities (provides S c) (provides S d)))
-      (λ c hc. member-like s v y _ (λ d. ~ (fc c == d) ⇒ disjoint facilities (provides S (fc c)) (provides S d)) (λ d hd.
+      (λ d. isMember Y (oldC s) (oldV v) d ⇒ ~ (c == d) ⇒ disjoint facilities (provides S c) (provides S d)))
+      (λ c hc. member-like s v y _ (λ d. ~ (oldC c == d) ⇒ disjoint facilities (provides S (oldC c)) (provides S d)) (λ d hd.
       ap₂ (λ (e x : Bool). ~ e ⇒ x) (eq-like c d hc hd) (apart-like c d)))) (g .b6)
 
   pub B7-like : B7 S₁ Y₁ ≡ true
   unfolding B7 B7at meet union
   B7-like = each-like _ _ (λ s v y.
-      member-like s v y _ (λ c. any facilities (λ f. provides S c f & (r S Y (fc s) (fv v) f or provides S (fc s) f))) (λ c hc.
+      member-like s v y _ (λ c. any facilities (λ f. provides S c f & (r S Y (oldC s) (oldV v) f or provides S (oldC s) f)))
+      (λ c hc.
       any-cong facilities (λ f. ap₂ _&_ (K .prov c f) (ap₂ _or_ (r-like s v f y) (K .prov s f)))
-      ∙ anyF (λ f. provides S (fc c) f & (r S Y (fc s) (fv v) f or provides S (fc s) f))
-      (λ f e. providedBy (fc c) (and-l _ _ e)))) (g .b7)
+      ∙ anyF (λ f. provides S (oldC c) f & (r S Y (oldC s) (oldV v) f or provides S (oldC s) f))
+      (λ f e. providedBy (oldC c) (and-l _ _ e)))) (g .b7)
 
   pub B8-like : B8 S₁ Y₁ ≡ true
   unfolding B8 B8at subset
   B8-like = each-like _ _ (λ s v y.
       all-cong facilities (λ f. ap₂ _⇒_ (K .prov s f) (p-like s v f y))
-      ∙ allF (λ f. provides S (fc s) f ⇒ p S Y (fc s) (fv v) f) (λ f e. providedBy (fc s) (imp-no _ _ e .0))) (g .b8)
+      ∙ allF (λ f. provides S (oldC s) f ⇒ p S Y (oldC s) (oldV v) f) (λ f e. providedBy (oldC s) (imp-no _ _ e .0))) (g .b8)
 
   offered-used : (s f : ℕ) → offered S Y s f ≡ true → UsedF S f
   unfolding offered
@@ -262,10 +272,10 @@ module _ (b : Book) (g : Good b) (S₁ : Specs) (Y₁ : Systems) (re : Renumberi
   B9-like = each-like _ _ (λ s v y.
       all-cong facilities (λ f. ap₂ (λ (x z : Bool). x ⇒ ~ z) (ap₂ (λ (x z : Bool). x & ~ z) (r-like s v f y) (p-like s v f y))
       (offered-like s f y))
-      ∙ allF (λ f. (r S Y (fc s) (fv v) f & ~ p S Y (fc s) (fv v) f) ⇒ ~ (offered S Y (fc s) f))
-      (λ f e. offered-used (fc s) f (not-no _ (imp-no _ _ e .1)))) (g .b9)
+      ∙ allF (λ f. (r S Y (oldC s) (oldV v) f & ~ p S Y (oldC s) (oldV v) f) ⇒ ~ (offered S Y (oldC s) f))
+      (λ f e. offered-used (oldC s) f (not-no _ (imp-no _ _ e .1)))) (g .b9)
 
-  reaches-like : (n s c : ℕ) → reachesIn n Y₁ s c ≡ true → reachesIn n Y (fc s) (fc c) ≡ true
+  reaches-like : (n s c : ℕ) → reachesIn n Y₁ s c ≡ true → reachesIn n Y (oldC s) (oldC c) ≡ true
   unfolding reachesIn
   reaches-like zero s c t = sym (K .uses s c (usable-system Y₁ s c t)) ∙ t
   reaches-like (suc n) s c t =
@@ -273,7 +283,7 @@ module _ (b : Book) (g : Good b) (S₁ : Specs) (Y₁ : Systems) (re : Renumberi
         | inl u ↦ or-l _ _ (sym (K .uses s c (usable-system Y₁ s c u)) ∙ u)
         | inr a ↦ (let q = any-out _ _ a in let u = and-l _ _ (q .2) in
             let k = sym (K .uses s (q .0) (usable-system Y₁ s (q .0) u)) ∙ u in
-            or-r _ _ (any-in _ _ (fc (q .0)) (g .systemLimits .usable< (fc s) (fc (q .0)) k)
+            or-r _ _ (any-in _ _ (oldC (q .0)) (g .systemLimits .usable< (oldC s) (oldC (q .0)) k)
             (and-in _ _ k (reaches-like n (q .0) c (and-r _ _ (q .2))))))
       ]
 
@@ -281,4 +291,4 @@ module _ (b : Book) (g : Good b) (S₁ : Specs) (Y₁ : Systems) (re : Renumberi
   unfolding B4 reaches
   B4-like = system-in Y₁ _ (λ s y. not-in _
       (fails _ (λ t. clash (reaches-like components s s t)
-      (not-out _ (system-out Y _ (g .systemLimits) (g .b4) (fc s) (K .sys s y))))))
+      (not-out _ (system-out Y _ (g .systemLimits) (g .b4) (oldC s) (K .sys s y))))))

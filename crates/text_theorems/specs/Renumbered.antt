@@ -48,23 +48,23 @@ only-none m = fun-ext (λ n. if-false _ _ _ refl)
 
 -- ---- a book under other numbers
 
-unfoldable pub pullSpec : (fv ff gv : ℕ → ℕ) → Spec → Spec
-pullSpec fv ff gv x = record {
-  prov = λ f. x .prov (ff f);
-  req = λ v. optionMap (λ q f. q (ff f)) (x .req (fv v));
-  std = gv
+unfoldable pub renumberSpec : (oldV oldF newV : ℕ → ℕ) → Spec → Spec
+renumberSpec oldV oldF newV x = record {
+  prov = λ f. x .prov (oldF f);
+  req = λ v. optionMap (λ q f. q (oldF f)) (x .req (oldV v));
+  std = newV
       (x .std);
 }
 
-unfoldable pub pullSystem : (fc fv gv : ℕ → ℕ) → System → System
-pullSystem fc fv gv y = record {
-  uses = λ c. y .uses (fc c);
-  comp = λ v. optionMap (λ m c. optionMap gv (m (fc c)))
-      (y .comp (fv v));
+unfoldable pub renumberSystem : (oldC oldV newV : ℕ → ℕ) → System → System
+renumberSystem oldC oldV newV y = record {
+  uses = λ c. y .uses (oldC c);
+  comp = λ v. optionMap (λ m c. optionMap newV (m (oldC c)))
+      (y .comp (oldV v));
 }
 
-unfoldable pub pullModule : (fv gi : ℕ → ℕ) → Map ℕ → Map ℕ
-pullModule fv gi i v = optionMap gi (i (fv v))
+unfoldable pub renumberModule : (oldV newI : ℕ → ℕ) → Map ℕ → Map ℕ
+renumberModule oldV newI i v = optionMap newI (i (oldV v))
 
 module _ (b : Book) (re : Renumbering (b .specs) (b .modules)) where
   abbrev S : Specs
@@ -76,105 +76,106 @@ module _ (b : Book) (re : Renumbering (b .specs) (b .modules)) where
   abbrev Y : Systems
   Y = b .systems
 
-  abbrev fc : ℕ → ℕ
-  fc = re .fc
+  abbrev oldC : ℕ → ℕ
+  oldC = re .oldC
 
-  abbrev fv : ℕ → ℕ
-  fv = re .fv
+  abbrev oldV : ℕ → ℕ
+  oldV = re .oldV
 
-  abbrev gv : ℕ → ℕ
-  gv = re .gv
+  abbrev newV : ℕ → ℕ
+  newV = re .newV
 
-  abbrev ff : ℕ → ℕ
-  ff = re .ff
+  abbrev oldF : ℕ → ℕ
+  oldF = re .oldF
 
-  abbrev gi : ℕ → ℕ
-  gi = re .gi
+  abbrev newI : ℕ → ℕ
+  newI = re .newI
 
   -- the book under the new numbers
   unfoldable pub newSpecs : Specs
-  newSpecs c = optionMap (pullSpec fv ff gv) (S (fc c))
+  newSpecs c = optionMap (renumberSpec oldV oldF newV) (S (oldC c))
 
   unfoldable pub newModules : Modules
-  newModules c = optionMap (pullModule fv gi) (M (fc c))
+  newModules c = optionMap (renumberModule oldV newI) (M (oldC c))
 
   unfoldable pub newSystems : Systems
-  newSystems s = optionMap (pullSystem fc fv gv) (Y (fc s))
+  newSystems s = optionMap (renumberSystem oldC oldV newV) (Y (oldC s))
 
   -- ---- what it says
 
-  pub specified′ : (c : ℕ) → specified newSpecs c ≡ specified S (fc c)
+  pub specified′ : (c : ℕ) → specified newSpecs c ≡ specified S (oldC c)
   unfolding specified newSpecs
   specified′ c = optionMap-some _ _
 
-  pub provides′ : (c f : ℕ) → provides newSpecs c f ≡ provides S (fc c) (ff f)
-  unfolding provides newSpecs pullSpec
-  provides′ c f = has-map _ (S (fc c)) _
+  pub provides′ : (c f : ℕ) → provides newSpecs c f ≡ provides S (oldC c) (oldF f)
+  unfolding provides newSpecs renumberSpec
+  provides′ c f = has-map _ (S (oldC c)) _
 
-  version-by : (o : Option Spec) (v : ℕ) → isSome (andThen (optionMap (pullSpec fv ff gv) o) (λ x. x .req v))
-      ≡ isSome (andThen o (λ x. x .req (fv v)))
-  unfolding andThen optionMap pullSpec
+  version-by : (o : Option Spec) (v : ℕ) → isSome (andThen (optionMap (renumberSpec oldV oldF newV) o) (λ x. x .req v))
+      ≡ isSome (andThen o (λ x. x .req (oldV v)))
+  unfolding andThen optionMap renumberSpec
   version-by none v = refl
   version-by (some x) v = optionMap-some _ _
 
-  pub hasVersion′ : (c v : ℕ) → hasVersion newSpecs c v ≡ hasVersion S (fc c) (fv v)
+  pub hasVersion′ : (c v : ℕ) → hasVersion newSpecs c v ≡ hasVersion S (oldC c) (oldV v)
   unfolding hasVersion required newSpecs
-  hasVersion′ c v = version-by (S (fc c)) v
+  hasVersion′ c v = version-by (S (oldC c)) v
 
-  requires-by : (o : Option Spec) (v f : ℕ) → has (andThen (optionMap (pullSpec fv ff gv) o) (λ x. x .req v)) (λ q. q f)
-      ≡ has (andThen o (λ x. x .req (fv v))) (λ q. q (ff f))
-  unfolding andThen optionMap pullSpec has
+  requires-by : (o : Option Spec) (v f : ℕ) → has (andThen (optionMap (renumberSpec oldV oldF newV) o) (λ x. x .req v)) (λ q. q f)
+      ≡ has (andThen o (λ x. x .req (oldV v))) (λ q. q (oldF f))
+  unfolding andThen optionMap renumberSpec has
   requires-by none v f = refl
-  requires-by (some x) v f = has-map _ (x .req (fv v)) _
+  requires-by (some x) v f = has-map _ (x .req (oldV v)) _
 
-  pub requires′ : (c v f : ℕ) → requires newSpecs c v f ≡ requires S (fc c) (fv v) (ff f)
+  pub requires′ : (c v f : ℕ) → requires newSpecs c v f ≡ requires S (oldC c) (oldV v) (oldF f)
   unfolding requires required newSpecs
-  requires′ c v f = requires-by (S (fc c)) v f
+  requires′ c v f = requires-by (S (oldC c)) v f
 
-  pub isModule′ : (c : ℕ) → isModule newModules c ≡ isModule M (fc c)
+  pub isModule′ : (c : ℕ) → isModule newModules c ≡ isModule M (oldC c)
   unfolding isModule newModules
   isModule′ c = optionMap-some _ _
 
-  implementation-by : (o : Option (Map ℕ)) (v : ℕ) → andThen (optionMap (pullModule fv gi) o) (λ i. i v)
-      ≡ optionMap gi (andThen o (λ i. i (fv v)))
-  unfolding andThen optionMap pullModule
+  implementation-by : (o : Option (Map ℕ)) (v : ℕ) → andThen (optionMap (renumberModule oldV newI) o) (λ i. i v)
+      ≡ optionMap newI (andThen o (λ i. i (oldV v)))
+  unfolding andThen optionMap renumberModule
   implementation-by none v = refl
   implementation-by (some x) v = refl
 
-  pub implementation′ : (c v : ℕ) → implementation newModules c v ≡ optionMap gi (implementation M (fc c) (fv v))
+  pub implementation′ : (c v : ℕ) → implementation newModules c v ≡ optionMap newI (implementation M (oldC c) (oldV v))
   unfolding implementation newModules
-  implementation′ c v = implementation-by (M (fc c)) v
+  implementation′ c v = implementation-by (M (oldC c)) v
 
-  pub isSystem′ : (s : ℕ) → isSystem newSystems s ≡ isSystem Y (fc s)
+  pub isSystem′ : (s : ℕ) → isSystem newSystems s ≡ isSystem Y (oldC s)
   unfolding isSystem newSystems
   isSystem′ s = optionMap-some _ _
 
-  pub usable′ : (s c : ℕ) → usable newSystems s c ≡ usable Y (fc s) (fc c)
-  unfolding usable newSystems pullSystem
-  usable′ s c = has-map _ (Y (fc s)) _
+  pub usable′ : (s c : ℕ) → usable newSystems s c ≡ usable Y (oldC s) (oldC c)
+  unfolding usable newSystems renumberSystem
+  usable′ s c = has-map _ (Y (oldC s)) _
 
-  composed-by : (o : Option System) (v : ℕ) → isSome (andThen (optionMap (pullSystem fc fv gv) o) (λ y. y .comp v))
-      ≡ isSome (andThen o (λ y. y .comp (fv v)))
-  unfolding andThen optionMap pullSystem
+  composed-by : (o : Option System) (v : ℕ) → isSome (andThen (optionMap (renumberSystem oldC oldV newV) o) (λ y. y .comp v))
+      ≡ isSome (andThen o (λ y. y .comp (oldV v)))
+  unfolding andThen optionMap renumberSystem
   composed-by none v = refl
   composed-by (some y) v = optionMap-some _ _
 
-  pub composed′ : (s v : ℕ) → composed newSystems s v ≡ composed Y (fc s) (fv v)
+  pub composed′ : (s v : ℕ) → composed newSystems s v ≡ composed Y (oldC s) (oldV v)
   unfolding composed composition newSystems
-  composed′ s v = composed-by (Y (fc s)) v
+  composed′ s v = composed-by (Y (oldC s)) v
 
-  member-by′ : (o : Option (Map ℕ)) (c : ℕ) → andThen (optionMap {B = Map ℕ} (λ m c. optionMap gv (m (fc c))) o) (λ m. m c)
-      ≡ optionMap gv (andThen o (λ m. m (fc c)))
+  member-by′ : (o : Option (Map ℕ)) (c : ℕ) → andThen (optionMap {B = Map ℕ} (λ m c. optionMap newV (m (oldC c))) o) (λ m. m c)
+      ≡ optionMap newV (andThen o (λ m. m (oldC c)))
   unfolding andThen optionMap
   member-by′ none c = refl
   member-by′ (some m) c = refl
 
-  member-by : (o : Option System) (v c : ℕ) → andThen (andThen (optionMap (pullSystem fc fv gv) o) (λ y. y .comp v)) (λ m. m c)
-      ≡ optionMap gv (andThen (andThen o (λ y. y .comp (fv v))) (λ m. m (fc c)))
-  unfolding andThen optionMap pullSystem
+  member-by : (o : Option System) (v c : ℕ)
+      → andThen (andThen (optionMap (renumberSystem oldC oldV newV) o) (λ y. y .comp v)) (λ m. m c)
+      ≡ optionMap newV (andThen (andThen o (λ y. y .comp (oldV v))) (λ m. m (oldC c)))
+  unfolding andThen optionMap renumberSystem
   member-by none v c = refl
-  member-by (some y) v c = member-by′ (y .comp (fv v)) c
+  member-by (some y) v c = member-by′ (y .comp (oldV v)) c
 
-  pub member′ : (s v c : ℕ) → member newSystems s v c ≡ optionMap gv (member Y (fc s) (fv v) (fc c))
+  pub member′ : (s v c : ℕ) → member newSystems s v c ≡ optionMap newV (member Y (oldC s) (oldV v) (oldC c))
   unfolding member composition newSystems
-  member′ s v c = member-by (Y (fc s)) v c
+  member′ s v c = member-by (Y (oldC s)) v c

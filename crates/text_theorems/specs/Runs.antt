@@ -134,24 +134,26 @@ all-longer t (k ∷ ks) = longer-trans t (entered t (mentioned k)) _ (entered-lo
         record { comps = grown-enter _ _; vers = grown-enter _ _; facs = grown-enter _ _; impls = grown-enter _ _ }
 
 -- commands that the book accepts one after the other, with their numbers in T
-pub data Plan (T : Tables) : Book → List Said → Book → Type 0 where
-  stop : {b : Book} → Plan T b [] b
+pub data Accepts (T : Tables) : Book → List Said → Book → Type 0 where
+  stop : {b : Book} → Accepts T b [] b
   go : {b b₁ : Book} {k : Said} {ks : List Said} (K : Command) → Writable k → Numbered T k K → answer b K ≡ 0
-      → Plan T (after b K) ks b₁ → Plan T b (k ∷ ks) b₁
+      → Accepts T (after b K) ks b₁ → Accepts T b (k ∷ ks) b₁
 
-pub plan-append : {T : Tables} {b b₁ b₂ : Book} {ks ls : List Said} → Plan T b ks b₁ → Plan T b₁ ls b₂ → Plan T b (ks ++ ls) b₂
-plan-append stop q = q
-plan-append (go K w n a p) q = go K w n a (plan-append p q)
+pub accepts-append : {T : Tables} {b b₁ b₂ : Book} {ks ls : List Said} → Accepts T b ks b₁ → Accepts T b₁ ls b₂
+    → Accepts T b (ks ++ ls) b₂
+accepts-append stop q = q
+accepts-append (go K w n a p) q = go K w n a (accepts-append p q)
 
-pub plan-runs : (T : Tables) → fits T ≡ true → {b b₁ : Book} {ks : List Said} → Plan T b ks b₁ → (t : Tables) → allEntered t ks
+pub accepts-runs : (T : Tables) → fits T ≡ true → {b b₁ : Book} {ks : List Said} → Accepts T b ks b₁ → (t : Tables)
+    → allEntered t ks
     ≡ T → Runs (record { book = b; tables = t }) ks (record { book = b₁; tables = T })
 unfolding allEntered reachedBy
-plan-runs T h {b} stop t e = subst (λ (z : Tables). Runs (record { book = b; tables = t }) []
+accepts-runs T h {b} stop t e = subst (λ (z : Tables). Runs (record { book = b; tables = t }) []
     (record { book = b; tables = z })) e done
-plan-runs T h (go {k = k} {ks = ks} K w n a p) t e =
+accepts-runs T h (go {k = k} {ks = ks} K w n a p) t e =
     step w (carries (record { book = _; tables = t }) T k K w n
     (subst (Longer (entered t (mentioned k))) e (all-longer (entered t (mentioned k)) ks)) h a)
-    (plan-runs T h p (entered t (mentioned k)) e)
+    (accepts-runs T h p (entered t (mentioned k)) e)
 
 -- ---- a text has no fewer bytes than commands
 

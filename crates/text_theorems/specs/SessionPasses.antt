@@ -25,8 +25,8 @@ use Rattle.text.specs.Session.{Result, State, add, afterwards, asked, carry, de
 use Rattle.text.specs.Session.{ofVersion, onRead, session, sessionFrom, shown, told}
 use Rattle.text.specs.Tables.{Table, Tables, entered, fits, nameAt, numbers, place}
 use Rattle.text_theorems.specs.BookNumbers.{after-numbers, puts}
+use Rattle.text_theorems.specs.BookReadsBack.{reads-back}
 use Rattle.text_theorems.specs.Places.{apart, apart-once}
-use Rattle.text_theorems.specs.RoundTrip.{reads-back}
 use Rattle.text_theorems.specs.TextLaws.{by-test}
 use Rattle.text_theorems.specs.ValidNames.{ValidRead, command-valid, validSaid}
 use Rattle.text_theorems.specs.ValidTables.{AllApart, AllValid, NumbersHeld, Puts, entered-apart, entered-held, entered-valid}

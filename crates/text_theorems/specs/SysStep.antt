@@ -24,8 +24,8 @@ use Rattle.text_theorems.specs.ModStep.{is-undefined}
 use Rattle.text_theorems.specs.Renamed.{B3-like, B4-like, B5-like, B6-like, B7-like, B8-like, B9-like, Like, Renumbering}
 use Rattle.text_theorems.specs.Renamed.{UsedC, UsedV, versionOf}
 use Rattle.text_theorems.specs.Renumbered.{composed′, hasVersion′, isModule′, isSystem′, member′, newModules, newSpecs}
-use Rattle.text_theorems.specs.Renumbered.{newSystems, only, only-in, only-out, provides′, pullSystem, put-only, requires′}
-use Rattle.text_theorems.specs.Renumbered.{specified′, usable′}
+use Rattle.text_theorems.specs.Renumbered.{newSystems, only, only-in, only-out, provides′, put-only, renumberSystem}
+use Rattle.text_theorems.specs.Renumbered.{requires′, specified′, usable′}
 use Rattle.text_theorems.specs.TextLaws.{nonEmpty-map}
 use Rattle.theorems.specs.Alike.{composed-same, isSystem-same, member-same, usable-same}
 use Rattle.theorems.specs.Frame.{composition-out, mem-usable}
@@ -64,24 +64,24 @@ module _ (b : Book) (g : Good b) (re : Renumbering (b .specs) (b .modules)) wher
   abbrev Y′ : Systems
   Y′ = newSystems b re
 
-  abbrev fc : ℕ → ℕ
-  fc = re .fc
+  abbrev oldC : ℕ → ℕ
+  oldC = re .oldC
 
-  abbrev gc : ℕ → ℕ
-  gc = re .gc
+  abbrev newC : ℕ → ℕ
+  newC = re .newC
 
-  abbrev fv : ℕ → ℕ
-  fv = re .fv
+  abbrev oldV : ℕ → ℕ
+  oldV = re .oldV
 
-  abbrev gv : ℕ → ℕ
-  gv = re .gv
+  abbrev newV : ℕ → ℕ
+  newV = re .newV
 
-  abbrev ff : ℕ → ℕ
-  ff = re .ff
+  abbrev oldF : ℕ → ℕ
+  oldF = re .oldF
 
   -- specs and modules are in, and the systems at the new numbers of l
-  unfoldable pub by : List ℕ → Book
-  by l = record { specs = S′; modules = M′; systems = only l Y′ }
+  unfoldable pub withSystems : List ℕ → Book
+  withSystems l = record { specs = S′; modules = M′; systems = only l Y′ }
 
   none-yet : (l : List ℕ) (s : ℕ) → elem s l ≡ false → isSystem (only l Y′) s ≡ false
   unfolding isSystem isSome
@@ -89,7 +89,7 @@ module _ (b : Book) (g : Good b) (re : Renumbering (b .specs) (b .modules)) wher
 
   -- the usable systems of each system in the list are in the list
   abbrev pub Closed : List ℕ → Type 0
-  Closed l = (s c : ℕ) → elem s l ≡ true → usable Y (fc s) (fc c) ≡ true → isSystem Y (fc c) ≡ true → elem c l ≡ true
+  Closed l = (s c : ℕ) → elem s l ≡ true → usable Y (oldC s) (oldC c) ≡ true → isSystem Y (oldC c) ≡ true → elem c l ≡ true
 
   module _ (l : List ℕ) (closed : Closed l) where
     listed : (s : ℕ) → isSystem (only l Y′) s ≡ true → elem s l ≡ true
@@ -120,8 +120,8 @@ module _ (b : Book) (g : Good b) (re : Renumbering (b .specs) (b .modules)) wher
     pub keeps4 : B4 (only l Y′) ≡ true
     keeps4 = B4-like b g S′ (only l Y′) re like
 
-    pub keeps5-9 : B5-to-B9 (by l) ≡ true
-    unfolding B5-to-B9 by
+    pub keeps5-9 : B5-to-B9 (withSystems l) ≡ true
+    unfolding B5-to-B9 withSystems
     keeps5-9 =
         and-in _ _ (B5-like b g S′ (only l Y′) re like)
         (and-in _ _ (B6-like b g S′ (only l Y′) re like)
@@ -130,18 +130,18 @@ module _ (b : Book) (g : Good b) (re : Renumbering (b .specs) (b .modules)) wher
         (B9-like b g S′ (only l Y′) re like))))
 
   unfoldable pub sysMembers : (s : ℕ) → SysLists Y s → ℕ → Members
-  sysMembers s ls v = map (λ c. (gc c, some (gv (ls .held v c)))) (ls .mems v)
+  sysMembers s ls v = map (λ c. (newC c, some (newV (ls .held v c)))) (ls .mems v)
 
-  unfoldable pub sysK : (s : ℕ) → SysLists Y s → Command
-  sysK s ls = ADD-SYS (gc s) (map gc (ls .uses)) (map (λ v. (gv v, sysMembers s ls v)) (ls .vers))
+  unfoldable pub sysCommand : (s : ℕ) → SysLists Y s → Command
+  sysCommand s ls = ADD-SYS (newC s) (map newC (ls .uses)) (map (λ v. (newV v, sysMembers s ls v)) (ls .vers))
 
-  system-new : (s : ℕ) (y : System) → specified S s ≡ true → Y s ≡ some y → Y′ (gc s) ≡ some (pullSystem fc fv gv y)
+  system-new : (s : ℕ) (y : System) → specified S s ≡ true → Y s ≡ some y → Y′ (newC s) ≡ some (renumberSystem oldC oldV newV y)
   unfolding newSystems optionMap
-  system-new s y there e = ap (λ (k : ℕ). optionMap (pullSystem fc fv gv) (Y k)) (re .ofC .back s there)
-      ∙ ap (optionMap (pullSystem fc fv gv)) e
+  system-new s y there e = ap (λ (k : ℕ). optionMap (renumberSystem oldC oldV newV) (Y k)) (re .ofC .back s there)
+      ∙ ap (optionMap (renumberSystem oldC oldV newV)) e
 
-  module _ (s : ℕ) (ls : SysLists Y s) (l : List ℕ) (there : isSystem Y s ≡ true) (fresh : elem (gc s) l ≡ false)
-      (closed : Closed (gc s ∷ l)) where
+  module _ (s : ℕ) (ls : SysLists Y s) (l : List ℕ) (there : isSystem Y s ≡ true) (fresh : elem (newC s) l ≡ false)
+      (closed : Closed (newC s ∷ l)) where
     abbrev lu : List ℕ
     lu = ls .uses
 
@@ -169,7 +169,7 @@ module _ (b : Book) (g : Good b) (re : Renumbering (b .specs) (b .modules)) wher
     sysSpec : specified S s ≡ true
     sysSpec = g .b2 .sys-spec s there
 
-    back-s : fc (gc s) ≡ s
+    back-s : oldC (newC s) ≡ s
     back-s = re .ofC .back s sysSpec
 
     sysU : (c : ℕ) → usable Y s c ≡ true → UsedC S c
@@ -200,101 +200,104 @@ module _ (b : Book) (g : Good b) (re : Renumbering (b .specs) (b .modules)) wher
 
     member-once : (v : ℕ) → once (firsts (sysMembers s ls v)) ≡ true
     unfolding sysMembers
-    member-once v = ap once (firsts-map gc _ (lm v)) ∙ new-once (re .ofC) (lm v) (km v) (memC v)
+    member-once v = ap once (firsts-map newC _ (lm v)) ∙ new-once (re .ofC) (lm v) (km v) (memC v)
 
     member-some : (v : ℕ) → composed Y s v ≡ true → nonEmpty (sysMembers s ls v) ≡ true
     unfolding sysMembers
     member-some v e = nonEmpty-map _ (lm v) (has-member v e)
 
     -- a composition
-    comp-at : (v : ℕ) (m : Map ℕ) → composition Y s v ≡ some m → stored S′ (sysMembers s ls v) ≡ (λ c. optionMap gv (m (fc c)))
+    comp-at : (v : ℕ) (m : Map ℕ) → composition Y s v ≡ some m → stored S′ (sysMembers s ls v)
+        ≡ (λ c. optionMap newV (m (oldC c)))
     unfolding stored sysMembers optionMap orElse isMember
     comp-at v m e = fun-ext (λ c.
-        let at : member Y s v (fc c) ≡ m (fc c) = unfold member in andThen-in _ _ m e in
-        elim (bool? (isMember Y s v (fc c))) [
-          | inl h ↦ (let q = isSome-out (member Y s v (fc c)) h in
+        let at : member Y s v (oldC c) ≡ m (oldC c) = unfold member in andThen-in _ _ m e in
+        elim (bool? (isMember Y s v (oldC c))) [
+          | inl h ↦ (let q = isSome-out (member Y s v (oldC c)) h in
               ap (optionMap (λ (w : Option ℕ). orElse w (standard S′ c)))
-              (new-beside (re .ofC) (lm v) (km v) (memC v) (λ c. some (gv (mv v c))) c h)
-              ∙ ap (λ (z : ℕ). some (gv z)) (kw v (fc c) (q .0) (q .1)) ∙ sym (ap (optionMap gv) (sym at ∙ q .1)))
+              (new-beside (re .ofC) (lm v) (km v) (memC v) (λ c. some (newV (mv v c))) c h)
+              ∙ ap (λ (z : ℕ). some (newV z)) (kw v (oldC c) (q .0) (q .1)) ∙ sym (ap (optionMap newV) (sym at ∙ q .1)))
           | inr h ↦ ap (optionMap (λ (w : Option ℕ). orElse w (standard S′ c)))
-              (new-beside-no (re .ofC) (lm v) (km v) (memC v) (λ c. some (gv (mv v c))) c h)
-              ∙ sym (ap (optionMap gv) (sym at ∙ isSome-no (member Y s v (fc c)) h))
+              (new-beside-no (re .ofC) (lm v) (km v) (memC v) (λ c. some (newV (mv v c))) c h)
+              ∙ sym (ap (optionMap newV) (sym at ∙ isSome-no (member Y s v (oldC c)) h))
         ])
 
-    comp-new : (y : System) → Y s ≡ some y → (v : ℕ) → optionMap (stored S′) (beside (map (λ v. (gv v, sysMembers s ls v)) lv) v)
-        ≡ optionMap (λ m c. optionMap gv (m (fc c))) (y .comp (fv v))
+    comp-new : (y : System) → Y s ≡ some y → (v : ℕ)
+        → optionMap (stored S′) (beside (map (λ v. (newV v, sysMembers s ls v)) lv) v)
+        ≡ optionMap (λ m c. optionMap newV (m (oldC c))) (y .comp (oldV v))
     unfolding optionMap composed
     comp-new y e v =
-        let at : composition Y s (fv v) ≡ y .comp (fv v) = unfold composition in andThen-in _ _ y e in
-        elim (bool? (composed Y s (fv v))) [
-          | inl h ↦ (let q = isSome-out (composition Y s (fv v)) h in
+        let at : composition Y s (oldV v) ≡ y .comp (oldV v) = unfold composition in andThen-in _ _ y e in
+        elim (bool? (composed Y s (oldV v))) [
+          | inl h ↦ (let q = isSome-out (composition Y s (oldV v)) h in
               ap (optionMap (stored S′)) (new-beside (re .ofV) lv kv sysV (sysMembers s ls) v h)
-              ∙ ap some (comp-at (fv v) (q .0) (q .1))
-              ∙ sym (ap (optionMap {B = Map ℕ} (λ m c. optionMap gv (m (fc c)))) (sym at ∙ q .1)))
+              ∙ ap some (comp-at (oldV v) (q .0) (q .1))
+              ∙ sym (ap (optionMap {B = Map ℕ} (λ m c. optionMap newV (m (oldC c)))) (sym at ∙ q .1)))
           | inr h ↦ ap (optionMap (stored S′))
               (new-beside-no (re .ofV) lv kv sysV (sysMembers s ls) v h)
-              ∙ sym (ap (optionMap {B = Map ℕ} (λ m c. optionMap gv (m (fc c)))) (sym at ∙ isSome-no (composition Y s (fv v)) h))
+              ∙ sym (ap (optionMap {B = Map ℕ} (λ m c. optionMap newV (m (oldC c)))) (sym at
+              ∙ isSome-no (composition Y s (oldV v)) h))
         ]
 
     uses-at : (y : System) → Y s ≡ some y → (c : ℕ) → usable Y s c ≡ y .uses c
     unfolding usable has
     uses-at y e c = ap (λ (o : Option System). has o (λ y. y .uses c)) e
 
-    pub sys-after : after (by l) (sysK s ls) ≡ by (gc s ∷ l)
-    unfolding after sysK by pullSystem setOf
+    pub sys-after : after (withSystems l) (sysCommand s ls) ≡ withSystems (newC s ∷ l)
+    unfolding after sysCommand withSystems renumberSystem setOf
     sys-after =
         let q = isSome-out (Y s) (unfold isSystem in there) in
         let y : System = record {
-          uses = setOf (map gc lu);
+          uses = setOf (map newC lu);
           comp = λ v. optionMap (stored S′)
-              (beside (map (λ v. (gv v, sysMembers s ls v)) lv) v);
+              (beside (map (λ v. (newV v, sysMembers s ls v)) lv) v);
         } in
-        let z : y ≡ pullSystem fc fv gv (q .0) = λ i. record {
-          uses = λ c. (new-each (re .ofC) lu ku sysU c ∙ uses-at (q .0) (q .1) (fc c)) i;
+        let z : y ≡ renumberSystem oldC oldV newV (q .0) = λ i. record {
+          uses = λ c. (new-each (re .ofC) lu ku sysU c ∙ uses-at (q .0) (q .1) (oldC c)) i;
           comp = λ v. comp-new (q .0) (q .1) v i;
         } in
-        let w : Y′ (gc s) ≡ some y = system-new s (q .0) sysSpec (q .1) ∙ ap {A = System} {B = Option System} some (sym z) in
-        λ i. record { specs = S′; modules = M′; systems = put-only l Y′ (gc s) y w i }
+        let w : Y′ (newC s) ≡ some y = system-new s (q .0) sysSpec (q .1) ∙ ap {A = System} {B = Option System} some (sym z) in
+        λ i. record { specs = S′; modules = M′; systems = put-only l Y′ (newC s) y w i }
 
-    system-after : after (by l) (sysK s ls) .systems ≡ only (gc s ∷ l) Y′
-    system-after = unfold by in ap (λ (x : Book). x .systems) sys-after
+    system-after : after (withSystems l) (sysCommand s ls) .systems ≡ only (newC s ∷ l) Y′
+    system-after = unfold withSystems in ap (λ (x : Book). x .systems) sys-after
 
-    specs-after : after (by l) (sysK s ls) .specs ≡ S′
-    specs-after = unfold by in ap (λ (x : Book). x .specs) sys-after
+    specs-after : after (withSystems l) (sysCommand s ls) .specs ≡ S′
+    specs-after = unfold withSystems in ap (λ (x : Book). x .specs) sys-after
 
-    sys-small : inLimits (sysK s ls) ≡ true
-    unfolding inLimits sysK eachBelow
+    sys-small : inLimits (sysCommand s ls) ≡ true
+    unfolding inLimits sysCommand eachBelow
     sys-small =
         and-in _ _ (<?-in _ _ (re .ofC .small s sysSpec))
         (and-in _ _ (new-small (re .ofC) lu ku sysU)
-        (and-in _ _ (ap (every (λ x. x <? versions)) (firsts-map gv _ lv) ∙ new-small (re .ofV) lv kv sysV)
-        (ap (every (every memberBelow)) (seconds-map gv _ lv) ∙ every-of _ _ lv (λ v e. member-small v))))
+        (and-in _ _ (ap (every (λ x. x <? versions)) (firsts-map newV _ lv) ∙ new-small (re .ofV) lv kv sysV)
+        (ap (every (every memberBelow)) (seconds-map newV _ lv) ∙ every-of _ _ lv (λ v e. member-small v))))
 
     no-module : isModule M s ≡ false
     no-module = fails _ (λ m. clash {A = ⊥} there (g .b2 .mod-sys s m))
 
-    pub sys-yes : answer (by l) (sysK s ls) ≡ 0
-    unfolding answer questions sysK by exactly noRequirements
+    pub sys-yes : answer (withSystems l) (sysCommand s ls) ≡ 0
+    unfolding answer questions sysCommand withSystems exactly noRequirements
     sys-yes = no-no
         (yes-all sys-small
         (yes-all (and-in _ _ (nonEmpty-map _ lv
         (lists-nonEmpty lv _ kv (standard S s) (g .b2 .sys-covers s (standard S s) there ∙ g .b1 .std-in s sysSpec)))
-        (ap (every nonEmpty) (seconds-map gv _ lv) ∙ every-of _ _ lv (λ v e. member-some v (sym (kv .each v) ∙ e))))
-        (yes-all (and-in _ _ (ap once (firsts-map gv _ lv) ∙ new-once (re .ofV) lv kv sysV)
+        (ap (every nonEmpty) (seconds-map newV _ lv) ∙ every-of _ _ lv (λ v e. member-some v (sym (kv .each v) ∙ e))))
+        (yes-all (and-in _ _ (ap once (firsts-map newV _ lv) ∙ new-once (re .ofV) lv kv sysV)
         (and-in _ _ (new-once (re .ofC) lu ku sysU)
-        (ap (every (λ ms. once (firsts ms))) (seconds-map gv _ lv) ∙ every-of _ _ lv (λ v e. member-once v))))
-        (yes-all (specified′ b re (gc s) ∙ ap (specified S) back-s ∙ sysSpec)
-        (yes-all (is-undefined M′ (only l Y′) (gc s) (isModule′ b re (gc s) ∙ ap (isModule M) back-s ∙ no-module)
-        (none-yet l (gc s) fresh))
-        (yes-all (all-in _ _ (λ v k. iff-in _ _ (ap (elem v) (firsts-map gv _ lv)
-        ∙ new-each (re .ofV) lv kv sysV v ∙ g .b2 .sys-covers s (fv v) there
-        ∙ ap (λ (z : ℕ). hasVersion S z (fv v)) (sym back-s) ∙ sym (hasVersion′ b re (gc s) v))))
+        (ap (every (λ ms. once (firsts ms))) (seconds-map newV _ lv) ∙ every-of _ _ lv (λ v e. member-once v))))
+        (yes-all (specified′ b re (newC s) ∙ ap (specified S) back-s ∙ sysSpec)
+        (yes-all (is-undefined M′ (only l Y′) (newC s) (isModule′ b re (newC s) ∙ ap (isModule M) back-s ∙ no-module)
+        (none-yet l (newC s) fresh))
+        (yes-all (all-in _ _ (λ v k. iff-in _ _ (ap (elem v) (firsts-map newV _ lv)
+        ∙ new-each (re .ofV) lv kv sysV v ∙ g .b2 .sys-covers s (oldV v) there
+        ∙ ap (λ (z : ℕ). hasVersion S z (oldV v)) (sym back-s) ∙ sym (hasVersion′ b re (newC s) v))))
         (yes-all (all-in _ _ (λ v k. all-in _ _
-        (λ f j. not-in _ (requires′ b re (gc s) v f ∙ ap (λ (z : ℕ). requires S z (fv v) (ff f)) back-s
-        ∙ g .b2 .sys-bare s (fv v) (ff f) there))))
-        (yes-all (every-of _ gc lu (λ c e. let u = sysU c (sym (ku .each c) ∙ e) in specified′ b re (gc c)
+        (λ f j. not-in _ (requires′ b re (newC s) v f ∙ ap (λ (z : ℕ). requires S z (oldV v) (oldF f)) back-s
+        ∙ g .b2 .sys-bare s (oldV v) (oldF f) there))))
+        (yes-all (every-of _ newC lu (λ c e. let u = sysU c (sym (ku .each c) ∙ e) in specified′ b re (newC c)
         ∙ ap (specified S) (re .ofC .back c u) ∙ u))
-        (yes-all (ap (B3 S′) system-after ∙ keeps3 (gc s ∷ l) closed)
-        (yes-all (ap B4 system-after ∙ keeps4 (gc s ∷ l) closed)
-        (yes-all (ap B5-to-B9 sys-after ∙ keeps5-9 (gc s ∷ l) closed)
+        (yes-all (ap (B3 S′) system-after ∙ keeps3 (newC s ∷ l) closed)
+        (yes-all (ap B4 system-after ∙ keeps4 (newC s ∷ l) closed)
+        (yes-all (ap B5-to-B9 sys-after ∙ keeps5-9 (newC s ∷ l) closed)
         none-left)))))))))))

@@ -32,7 +32,8 @@ unfolding andThen
 bind-o n t none f l h = tt
 bind-o n t (some x) f l h = step-o n t (x .1) l (f (x .0) (x .1)) (h (x .0) .at (x .1))
 
-bind-takes : {A B : Type 0} (n : ℕ) (p : Reader A) (f : A → Reader B) → Takes n p → ((a : A) → Takes 0 (f a)) → Takes n (_>>=_ p f)
+bind-takes : {A B : Type 0} (n : ℕ) (p : Reader A) (f : A → Reader B) → Takes n p → ((a : A) → Takes 0 (f a))
+    → Takes n (_>>=_ p f)
 unfolding _>>=_
 bind-takes n p f e h = record { at = λ t. bind-o n t (p t) f (e .at t) h }
 
@@ -111,7 +112,8 @@ listIn-takes zero k p e = record { at = λ t. tt }
 listIn-takes (suc n) k p e = record {
   at = λ t. bind-takes 1 p _ e
       (λ x. bind-takes 0 (ahead k) _ (ahead-takes k)
-      (λ on. bind-takes 0 (when on [] (listIn n k p)) _ (when-takes on [] (listIn n k p) (less (listIn n k p) (listIn-takes n k p e)))
+      (λ on. bind-takes 0 (when on [] (listIn n k p)) _
+      (when-takes on [] (listIn n k p) (less (listIn n k p) (listIn-takes n k p e)))
       (λ xs. give-takes (x ∷ xs)))) .at t;
 }
 
@@ -192,7 +194,8 @@ pub compo-takes : Takes 1 compo
 unfolding compo
 compo-takes = bind-takes 1 name _ name-takes
     (λ c. bind-takes 0 (ahead point) _ (ahead-takes point)
-    (λ b. bind-takes 0 (when b none _) _ (when-takes b none _ (bind-takes 0 name _ (less _ name-takes) (λ w. give-takes (some w))))
+    (λ b. bind-takes 0 (when b none _) _
+    (when-takes b none _ (bind-takes 0 name _ (less _ name-takes) (λ w. give-takes (some w))))
     (λ v. give-takes (c, v))))
 
 compos-takes : Takes 1 compos
@@ -263,7 +266,8 @@ after-r t u l wrong m = tt
 of-left : (t : Text) (n : Next) → LeftN t n → LeftR 1 t (commandOf n)
 unfolding commandOf
 of-left t (token (word w) u) l = by-test (LeftR 1 t) (same w (bytes "quit")) _ _ (λ e. tt)
-    (after-r t u l (byWord grammar w u) (by-word (LeftR 0 u) u tt (Takes 0) (λ p e. read-left 0 u (p u) (e .at u)) grammar grammar-takes w))
+    (after-r t u l (byWord grammar w u) (by-word (LeftR 0 u) u tt (Takes 0)
+    (λ p e. read-left 0 u (p u) (e .at u)) grammar grammar-takes w))
 of-left t (token (quoted w) u) l = tt
 of-left t (token (mark c) u) l = tt
 of-left t end l = tt

@@ -177,4 +177,5 @@ pub by-word : (Q : Read → Type 0) (t : Text) → Q wrong → (P : Reader Said 
     → (g : List (Text × Reader Said)) → Each P g → (w : Text) → Q (byWord g w t)
 unfolding byWord
 by-word Q t w₀ P h g no-more w = w₀
-by-word Q t w₀ P h g (_also_ {x = x} {xs = xs} p ps) w = by-test Q (same w (x .0)) _ _ (λ e. h (x .1) p) (by-word Q t w₀ P h xs ps w)
+by-word Q t w₀ P h g (_also_ {x = x} {xs = xs} p ps) w = by-test Q (same w (x .0)) _ _ (λ e. h (x .1) p)
+    (by-word Q t w₀ P h xs ps w)

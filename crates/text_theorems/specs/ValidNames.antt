@@ -296,7 +296,8 @@ unfolding grammar validSaid
 grammar-gives =
     spec-gives also module-gives also sys-gives also one-gives DELSPEC (λ c. refl) also one-gives DELMOD (λ c. refl) also
     one-gives DELSYS (λ c. refl) also modvar-gives also sysvar-gives also two-gives DELMODVAR (λ c v. refl) also
-    two-gives DELSYSVAR (λ c v. refl) also one-gives SUPPLIES (λ c. refl) also two-gives NEEDS (λ c v. refl) also choice-gives also
+    two-gives DELSYSVAR (λ c v. refl) also one-gives SUPPLIES (λ c. refl) also two-gives NEEDS
+    (λ c v. refl) also choice-gives also
     one-gives STANDARD (λ c. refl) also give-gives _ UNDEFINED refl also give-gives _ UNUSED refl also
     one-gives WHEREUSED (λ c. refl) also two-gives PARTS (λ c v. refl) also give-gives _ OUT refl also no-more
 
@@ -312,7 +313,8 @@ read-valid (some x) l = l
 
 of-valid : (n : Next) → ValidRead (commandOf n)
 unfolding commandOf
-of-valid (token (word w) u) = by-test ValidRead (same w (bytes "quit")) _ _ (λ q. tt) (by-word ValidRead u tt GivesValid (λ p e. read-valid (p u) (e .at u)) grammar grammar-gives w)
+of-valid (token (word w) u) = by-test ValidRead (same w (bytes "quit")) _ _ (λ q. tt)
+    (by-word ValidRead u tt GivesValid (λ p e. read-valid (p u) (e .at u)) grammar grammar-gives w)
 of-valid (token (quoted w) u) = tt
 of-valid (token (mark c) u) = tt
 of-valid end = tt

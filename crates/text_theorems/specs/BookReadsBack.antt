@@ -19,12 +19,12 @@ use Rattle.text.specs.Tables.{Table, Tables, place}
 use Rattle.text.specs.Written.{asCommands}
 use Rattle.text_theorems.specs.BookLaws.{implementation-module, provides-specified}
 use Rattle.text_theorems.specs.NamedGood.{passes→named}
-use Rattle.text_theorems.specs.NewNumbers.{T, atC, atF, atI, atV, renumbering}
+use Rattle.text_theorems.specs.NewNumbers.{atC, atF, atI, atV, reachedTables, renumbering}
 use Rattle.text_theorems.specs.NewPlaces.{eq-through}
 use Rattle.text_theorems.specs.Rebuilt.{rebuilt, text-read}
 use Rattle.text_theorems.specs.Renamed.{Renumbering, implementationOf, providedBy, requiredBy, versionOf}
 use Rattle.text_theorems.specs.Renumbered.{composed′, hasVersion′, implementation′, isModule′, isSystem′, member′, newSpecs}
-use Rattle.text_theorems.specs.Renumbered.{provides′, pullSpec, requires′, specified′, usable′}
+use Rattle.text_theorems.specs.Renumbered.{provides′, renumberSpec, requires′, specified′, usable′}
 use Rattle.text_theorems.specs.TextLaws.{has-map}
 use Rattle.theorems.specs.Frame.{composed-system, mem-usable, member-composed}
 use Rattle.theorems.specs.Good.{Good, requires-version, version-specified}
@@ -50,15 +50,15 @@ module _ (b : Book) (t : Tables) (g : Good b) (nm : Named (record { book = b; ta
   at-out x w P e = let q = has-out _ _ e in (q .0, q .2)
 
   standard-by : (o : Option Spec) → isSome o ≡ true
-      → orElse (optionMap (λ (x : Spec). x .std) (optionMap (pullSpec (re .fv) (re .ff) (re .gv)) o)) 0
-      ≡ re .gv (orElse (optionMap (λ (x : Spec). x .std) o) 0)
-  unfolding isSome optionMap orElse pullSpec
+      → orElse (optionMap (λ (x : Spec). x .std) (optionMap (renumberSpec (re .oldV) (re .oldF) (re .newV)) o)) 0
+      ≡ re .newV (orElse (optionMap (λ (x : Spec). x .std) o) 0)
+  unfolding isSome optionMap orElse renumberSpec
   standard-by none e = clash e refl
   standard-by (some x) e = refl
 
-  standard′ : (c : ℕ) → specified S (re .fc c) ≡ true → standard (newSpecs b re) c ≡ re .gv (standard S (re .fc c))
+  standard′ : (c : ℕ) → specified S (re .oldC c) ≡ true → standard (newSpecs b re) c ≡ re .newV (standard S (re .oldC c))
   unfolding standard newSpecs specified
-  standard′ c e = standard-by (S (re .fc c)) e
+  standard′ c e = standard-by (S (re .oldC c)) e
 
   member-spec : (s v c w : ℕ) → member Y s v c ≡ some w → specified S c ≡ true
   member-spec s v c w e = g .b2 .use-spec s c (mem-usable S Y (g .systemLimits) (g .b5) s v c w e .0)
@@ -69,7 +69,7 @@ module _ (b : Book) (t : Tables) (g : Good b) (nm : Named (record { book = b; ta
   impl-version : (c v i : ℕ) → implementation M c v ≡ some i → hasVersion S c v ≡ true
   impl-version c v i e = sym (g .b2 .mod-covers c v (implementation-module M c v i e)) ∙ isSome-in _ e
 
-  same-facts : Same (record { book = rebuilt b t g nm; tables = T b t g nm }) (record { book = b; tables = t })
+  same-facts : Same (record { book = rebuilt b t g nm; tables = reachedTables b t g nm }) (record { book = b; tables = t })
   unfolding holds at
   same-facts (IsSpecified c) = atC b t g nm c _ _ (specified′ b re) (λ n e. e)
   same-facts (IsModule c) = atC b t g nm c _ _ (isModule′ b re) (λ n e. g .b2 .mod-spec n e)
@@ -81,7 +81,7 @@ module _ (b : Book) (t : Tables) (g : Good b) (nm : Named (record { book = b; ta
   same-facts (Standard c v) = atC b t g nm c _ _ (λ m. atV b t g nm v _ _
       (λ k. ap (λ (x : Bool). x & k == standard (newSpecs b re) m) (specified′ b re m)
       ∙ and-cong _ (λ e. ap (λ (x : ℕ). k == x) (standard′ m e) ∙ eq-through (re .ofV) k _ (versionOf _ (g .b1 .std-in _ e))))
-      (λ n e. versionOf (re .fc m) (ap (hasVersion S (re .fc m)) (==-out _ _ (and-r _ _ e)) ∙ g .b1 .std-in _ (and-l _ _ e))))
+      (λ n e. versionOf (re .oldC m) (ap (hasVersion S (re .oldC m)) (==-out _ _ (and-r _ _ e)) ∙ g .b1 .std-in _ (and-l _ _ e))))
       (λ n e. let q = at-out _ v _ e in and-l _ _ (q .1))
   same-facts (Usable c d) = atC b t g nm c _ _ (λ m. atC b t g nm d _ _ (usable′ b re m) (λ n e. g .b2 .use-spec _ n e))
       (λ n e. let q = at-out _ d _ e in g .b2 .sys-spec n (usable-system Y n (q .0) (q .1)))

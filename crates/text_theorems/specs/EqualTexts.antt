@@ -6,6 +6,7 @@ use mathlib.Core.Option.{Option, none, some}
 use mathlib.Core.Path.{_∙_, _≡_, ap, ap₂, refl, sym}
 use Prim.Native.Nat.{_<_, suc, zero, ℕ}
 use native.Mathlib.Omega.{arith}
+use lib.Dec.{T}
 use lib.ListN.{length}
 use Rattle.model.specs.Book.{Specs, components, composed, facilities, hasVersion, implementation, isMember, isModule, isSystem}
 use Rattle.model.specs.Book.{member, provides, requires, specified, usable, versions}
@@ -21,15 +22,14 @@ use Rattle.text.specs.Session.{State, session}
 use Rattle.text.specs.Tables.{joined, nameAt}
 use Rattle.text.specs.Written.{asCommands, byName, facilityNames, firstOf, line, membersOf, modOf, ready, specOf, sysOf}
 use Rattle.text.specs.Written.{systemsFrom, systemsInOrder, written}
+use Rattle.text_theorems.specs.BookReadsBack.{reads-back}
 use Rattle.text_theorems.specs.Mentions.{cs-lists, li-lists, lk-lists, lm-lists, lv-lists, ms-lists, ys-lists}
 use Rattle.text_theorems.specs.NamedGood.{NamedGood, passes→named}
-use Rattle.text_theorems.specs.NewNumbers.{T}
 use Rattle.text_theorems.specs.Order.{from-none, from-some, systems-are}
-use Rattle.text_theorems.specs.RoundTrip.{reads-back}
+use Rattle.text_theorems.specs.SameNames.{Alike, SameName, at-cong, composed-same, elem-fwd, impl-fwd, is-member-fwd}
+use Rattle.text_theorems.specs.SameNames.{member-fwd, member-of, names-same, provides-same, ready-fwd, requires-same}
+use Rattle.text_theorems.specs.SameNames.{standard-same, sys-version, usable-same, useC, useP, useQ, useV, version-same}
 use Rattle.text_theorems.specs.TextLaws.{or-at}
-use Rattle.text_theorems.specs.Twins.{Alike, Twins, at-cong, composed-same, elem-fwd, impl-fwd, is-member-fwd, member-fwd}
-use Rattle.text_theorems.specs.Twins.{member-of, names-same, provides-same, ready-fwd, requires-same, standard-same}
-use Rattle.text_theorems.specs.Twins.{sys-version, usable-same, useC, useP, useQ, useV, version-same}
 use Rattle.text_theorems.specs.Unique.{map-along}
 use Rattle.theorems.specs.MapLaws.{isSome-out}
 use denote.Triple.Walked.{says}
@@ -77,14 +77,14 @@ module _ (s s′ : State) (A : Alike s s′) where
   abbrev S′ : Specs
   S′ = s′ .book .specs
 
-  abbrev Tw : ℕ → ℕ → Type 0
-  Tw = Twins s s′ A
+  abbrev SameC : ℕ → ℕ → Type 0
+  SameC = SameName s s′ A
 
   abbrev back : Alike s′ s
   back = record { left = p′; right = p; says = λ x. sym (A .says x) }
 
-  twins-back : (c c′ : ℕ) → Tw c c′ → Twins s′ s back c′ c
-  twins-back c c′ k = record { there = k .there′; there′ = k .there; named = sym (k .named) }
+  same-back : (c c′ : ℕ) → SameC c c′ → SameName s′ s back c′ c
+  same-back c c′ k = record { there = k .there′; there′ = k .there; named = sym (k .named) }
 
   facs-same : (test test′ : ℕ → Bool) → ((n : ℕ) → test n ≡ true
       → (n < facilities) × (nonEmpty (nameAt (s .tables .facs) n) ≡ true))
@@ -94,7 +94,7 @@ module _ (s s′ : State) (A : Alike s s′) where
   unfolding facilityNames
   facs-same test test′ u u′ h = names-same _ _ (p .named .facs-once) (p′ .named .facs-once) facilities test test′ u u′ h
 
-  spec-same : (c c′ : ℕ) → Tw c c′ → specOf (s .book) (s .tables) c ≡ specOf (s′ .book) (s′ .tables) c′
+  spec-same : (c c′ : ℕ) → SameC c c′ → specOf (s .book) (s .tables) c ≡ specOf (s′ .book) (s′ .tables) c′
   unfolding specOf
   spec-same c c′ k =
       let e₁ = facs-same (provides S c) (provides S′ c′) (useP s p c) (useP s′ p′ c′) (provides-same s s′ A c c′ k) in
@@ -112,7 +112,7 @@ module _ (s s′ : State) (A : Alike s s′) where
       λ i. (w i, q i)) in
       λ i. SPEC (k .named i) (e₁ i) (e₂ i) (standard-same s s′ A c c′ k i)
 
-  mod-same : (c c′ : ℕ) → Tw c c′ → isModule (s .book .modules) c ≡ true → isModule (s′ .book .modules) c′ ≡ true
+  mod-same : (c c′ : ℕ) → SameC c c′ → isModule (s .book .modules) c ≡ true → isModule (s′ .book .modules) c′ ≡ true
       → modOf (s .book) (s .tables) c ≡ modOf (s′ .book) (s′ .tables) c′
   unfolding modOf
   mod-same c c′ k m m′ =
@@ -144,7 +144,7 @@ module _ (s s′ : State) (A : Alike s s′) where
       λ i. (w i, q i)) in
       λ i. MOD (k .named i) (e₂ i)
 
-  members-same : (c c′ : ℕ) → Tw c c′ → (v v′ : ℕ) → hasVersion S c v ≡ true → hasVersion S′ c′ v′ ≡ true
+  members-same : (c c′ : ℕ) → SameC c c′ → (v v′ : ℕ) → hasVersion S c v ≡ true → hasVersion S′ c′ v′ ≡ true
       → nameAt (s .tables .vers) v ≡ nameAt (s′ .tables .vers) v′ → membersOf (s .book) (s .tables) c v
       ≡ membersOf (s′ .book) (s′ .tables) c′ v′
   unfolding membersOf
@@ -158,7 +158,7 @@ module _ (s s′ : State) (A : Alike s s′) where
       (isMember (s′ .book .systems) c′ v′) (λ d a. useC s p d (there-in s p c v d a))
       (λ d a. useC s′ p′ d (there-in s′ p′ c′ v′ d a))
       (λ w. iff→≡ _ _ (is-member-fwd s s′ A c c′ k v v′ h h′ e w)
-      (is-member-fwd s′ s back c′ c (twins-back c c′ k) v′ v h′ h (sym e) w)))
+      (is-member-fwd s′ s back c′ c (same-back c c′ k) v′ v h′ h (sym e) w)))
       (λ d d′ a a′ w.
       let x = held s c v d (sym (lm-lists (s .book) (s .tables) (p .good) (p .named) c v .each d) ∙ a) in
       let r = member-fwd s s′ A c c′ k v v′ h h′ e d (x .0) (x .1) in
@@ -179,7 +179,7 @@ module _ (s s′ : State) (A : Alike s s′) where
           → specified (x .book .specs) d ≡ true
       there-in x q c v d e = let h = held x c v d e in member-of x q c v d (h .0) (h .1) .0
 
-  sys-same : (c c′ : ℕ) → Tw c c′ → isSystem (s .book .systems) c ≡ true → isSystem (s′ .book .systems) c′ ≡ true
+  sys-same : (c c′ : ℕ) → SameC c c′ → isSystem (s .book .systems) c ≡ true → isSystem (s′ .book .systems) c′ ≡ true
       → sysOf (s .book) (s .tables) c ≡ sysOf (s′ .book) (s′ .tables) c′
   unfolding sysOf
   sys-same c c′ k y y′ =
@@ -206,16 +206,16 @@ module _ (s s′ : State) (A : Alike s s′) where
 
   -- ---- systems in order
 
-  twins : (c c′ : ℕ) → isSystem (s .book .systems) c ≡ true → isSystem (s′ .book .systems) c′ ≡ true
-      → nameAt (s .tables .comps) c ≡ nameAt (s′ .tables .comps) c′ → Tw c c′
-  twins c c′ y y′ e = record { there = p .good .b2 .sys-spec c y; there′ = p′ .good .b2 .sys-spec c′ y′; named = e }
+  same-name : (c c′ : ℕ) → isSystem (s .book .systems) c ≡ true → isSystem (s′ .book .systems) c′ ≡ true
+      → nameAt (s .tables .comps) c ≡ nameAt (s′ .tables .comps) c′ → SameC c c′
+  same-name c c′ y y′ e = record { there = p .good .b2 .sys-spec c y; there′ = p′ .good .b2 .sys-spec c′ y′; named = e }
 
   test-same : (out out′ : List ℕ) → map (nameAt (s .tables .comps)) out ≡ map (nameAt (s′ .tables .comps)) out′ → (x x′ : ℕ)
-      → Tw x x′
+      → SameC x x′
       → (~ (elem x out) & ready (s .book .systems) out x) ≡ (~ (elem x′ out′) & ready (s′ .book .systems) out′ x′)
   test-same out out′ e x x′ k = ap₂ _&_
-      (ap ~_ (iff→≡ _ _ (elem-fwd s s′ A out out′ e x x′ k) (elem-fwd s′ s back out′ out (sym e) x′ x (twins-back x x′ k))))
-      (iff→≡ _ _ (ready-fwd s s′ A out out′ e x x′ k) (ready-fwd s′ s back out′ out (sym e) x′ x (twins-back x x′ k)))
+      (ap ~_ (iff→≡ _ _ (elem-fwd s s′ A out out′ e x x′ k) (elem-fwd s′ s back out′ out (sym e) x′ x (same-back x x′ k))))
+      (iff→≡ _ _ (ready-fwd s s′ A out out′ e x x′ k) (ready-fwd s′ s back out′ out (sym e) x′ x (same-back x x′ k)))
 
   abbrev ls : List ℕ
   ls = byName (s .tables .comps) components (isSystem (s .book .systems))
@@ -244,7 +244,7 @@ module _ (s s′ : State) (A : Alike s s′) where
   order-same (suc n) out out′ e =
       elim (first-same (nameAt (s .tables .comps)) (nameAt (s′ .tables .comps)) (λ x. ~ (elem x out)
       & ready (s .book .systems) out x) (λ x. ~ (elem x out′) & ready (s′ .book .systems) out′ x) ls ls′ names-ls
-      (λ x x′ a a′ w. test-same out out′ e x x′ (twins x x′ (in-ls x a) (in-ls′ x′ a′) w))) [
+      (λ x x′ a a′ w. test-same out out′ e x x′ (same-name x x′ (in-ls x a) (in-ls′ x′ a′) w))) [
         | inl z ↦ ap (map (nameAt (s .tables .comps))) (from-none n _ ls out (z .0))
             ∙ sym (ap (map (nameAt (s′ .tables .comps))) (from-none n _ ls′ out′ (z .1)))
         | inr z ↦ ap (map (nameAt (s .tables .comps))) (from-some n _ ls out (z .0) (z .2))
@@ -293,7 +293,7 @@ module _ (s s′ : State) (A : Alike s s′) where
       (ys-lists (s .book) (s .tables) (p .good) (p .named)) components [] c a in
       let y′ = systems-are (s′ .book) (p′ .good) ls′
       (ys-lists (s′ .book) (s′ .tables) (p′ .good) (p′ .named)) components [] c′ a′ in
-      sys-same c c′ (twins c c′ y y′ w) y y′) in
+      sys-same c c′ (same-name c c′ y y′ w) y y′) in
       λ i. e₁ i ++ (e₂ i ++ e₃ i)
 
   texts-same : textOf s ≡ textOf s′
@@ -301,8 +301,8 @@ module _ (s s′ : State) (A : Alike s s′) where
   texts-same = ap (λ (ks : List Said). joined (map line ks)) commands-same
 
 -- "Two books have equal texts exactly when they are the same by names."
-pub texts-tell : (s s′ : State) → PassesNamed s → PassesNamed s′ → (textOf s ≡ textOf s′) ↔ Same s s′
-texts-tell s s′ p p′ = (
+pub equal-texts : (s s′ : State) → PassesNamed s → PassesNamed s′ → (textOf s ≡ textOf s′) ↔ Same s s′
+equal-texts s s′ p p′ = (
   λ e x. sym (reads-back s p .1 x) ∙ ap (λ (w : Text). holds (session w .1) x) e ∙ reads-back s′ p′ .1 x,
   λ F. texts-same s s′ (record { left = passes→named p; right = passes→named p′; says = F }),
 )

@@ -113,12 +113,12 @@ module _ (s s′ : State) (A : Alike s s′) where
   W′ = nameAt (s′ .tables .vers)
 
   -- a component with the same name in both
-  pub record Twins (c c′ : ℕ) : Type 0 where
+  pub record SameName (c c′ : ℕ) : Type 0 where
     pub there : specified (s .book .specs) c ≡ true
     pub there′ : specified (s′ .book .specs) c′ ≡ true
     pub named : N c ≡ N′ c′
 
-  module _ (c c′ : ℕ) (k : Twins c c′) where
+  module _ (c c′ : ℕ) (k : SameName c c′) where
     -- a fact on them, read off in each state
     read : (x : Name → Fact) (P : ℕ → Bool) (P′ : ℕ → Bool) → ((w : Name) → holds s (x w) ≡ at (s .tables .comps) w P)
         → ((w : Name) → holds s′ (x w) ≡ at (s′ .tables .comps) w P′) → P c ≡ P′ c′
@@ -219,24 +219,26 @@ module _ (s s′ : State) (A : Alike s s′) where
           ap (λ (z : Name). at (s′ .tables .comps) z (isMember (s′ .book .systems) c′ v′)) (sym (r .3 ∙ q .1))
           ∙ at-here _ _ (r .0) _ (isC s′ p′ (r .0) (m .0)) ∙ isSome-in _ (r .2)
 
-  system-same : (c c′ : ℕ) → Twins c c′ → isSystem (s .book .systems) c ≡ isSystem (s′ .book .systems) c′
+  system-same : (c c′ : ℕ) → SameName c c′ → isSystem (s .book .systems) c ≡ isSystem (s′ .book .systems) c′
   unfolding holds
   system-same c c′ k = read c c′ k IsSystem (isSystem (s .book .systems)) (isSystem (s′ .book .systems)) (λ w. refl) (λ w. refl)
 
   -- ---- the order of systems
 
-  pub elem-fwd : (out out′ : List ℕ) → map N out ≡ map N′ out′ → (x x′ : ℕ) → Twins x x′ → elem x out ≡ true → elem x′ out′ ≡ true
+  pub elem-fwd : (out out′ : List ℕ) → map N out ≡ map N′ out′ → (x x′ : ℕ) → SameName x x′ → elem x out ≡ true → elem x′ out′
+      ≡ true
   elem-fwd out out′ e x x′ k a =
       let r = among-names-out N′ out′ (N x) (ap (among (N x)) (sym e) ∙ among-names-in N out x a) in
       ap (λ (z : ℕ). elem z out′) (p′ .named .comps-once x′ (r .0) (useC s′ p′ x′ (k .there′) .1) (sym (k .named) ∙ r .2)) ∙ r .1
 
-  pub ready-fwd : (out out′ : List ℕ) → map N out ≡ map N′ out′ → (x x′ : ℕ) → Twins x x′ → ready (s .book .systems) out x ≡ true
+  pub ready-fwd : (out out′ : List ℕ) → map N out ≡ map N′ out′ → (x x′ : ℕ) → SameName x x′ → ready (s .book .systems) out x
+      ≡ true
       → ready (s′ .book .systems) out′ x′ ≡ true
   unfolding ready
   ready-fwd out out′ e x x′ k a = all-in _ _ (λ c′ l. imp-in _ _ (λ u′. imp-in _ _ (λ y′.
       let t′ = p′ .good .b2 .use-spec x′ c′ u′ in
       let q = at-out _ _ _ (usable-same x x′ k (N′ c′) ∙ at-here _ _ c′ (usable (s′ .book .systems) x′) (isC s′ p′ c′ t′) ∙ u′) in
       let c = q .0 in
-      let tw : Twins c c′ = record { there = p .good .b2 .use-spec x c (q .2); there′ = t′; named = q .1 } in
+      let tw : SameName c c′ = record { there = p .good .b2 .use-spec x c (q .2); there′ = t′; named = q .1 } in
       elem-fwd out out′ e c c′ tw (imp-out _ _ (imp-out _ _ (all-out _ _ a c (p .good .systemLimits .usable< x c (q .2))) (q .2))
       (system-same c c′ tw ∙ y′)))))

@@ -11,3 +11,4 @@ pub mod Example
 pub mod LanguageTable
 pub mod TablesTable
 pub mod WrittenTable
+pub mod CallsTable

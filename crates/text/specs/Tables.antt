@@ -47,7 +47,7 @@ joined [] = []
 joined (x ∷ xs) = x ++ joined xs
 
 -- "An accepted command puts its new names into the lowest free places in order of mention": in a session the free places are
--- those behind the last name, since "a place is held until the session ends"
+-- those behind the last name, since "A place is held until the session ends."
 unfoldable pub enter : Table → List Name → Table
 enter t [] = t
 enter t (w ∷ ws) = enter (if among w t then t else (t ++ (w ∷ []))) ws

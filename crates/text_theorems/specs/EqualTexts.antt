@@ -300,7 +300,7 @@ module _ (s s′ : State) (A : Alike s s′) where
   unfolding written
   texts-same = ap (λ (ks : List Said). joined (map line ks)) commands-same
 
--- "Two books have equal texts exactly when they are the same by names."
+-- "two books have equal texts exactly when they are the same by names"
 pub equal-texts : (s s′ : State) → PassesNamed s → PassesNamed s′ → (textOf s ≡ textOf s′) ↔ Same s s′
 equal-texts s s′ p p′ = (
   λ e x. sym (reads-back s p .1 x) ∙ ap (λ (w : Text). holds (session w .1) x) e ∙ reads-back s′ p′ .1 x,

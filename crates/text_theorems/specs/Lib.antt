@@ -31,4 +31,5 @@ pub mod LentSlice
 pub mod ValidNames
 pub mod BookNumbers
 pub mod ValidTables
+pub mod Changes
 pub mod SessionPasses

@@ -1,6 +1,6 @@
 -- The numbers of a written command stay as the tables grow: a place is held until the session ends.
 use mathlib.Core.Bool.{Bool, true}
-use mathlib.Core.List.{List, [], _++_, _∷_, map}
+use mathlib.Core.List.{List, [], _++_, _∷_, append-assoc, append-nil, map}
 use mathlib.Core.Logic.{inl, inr}
 use mathlib.Core.Option.{Option, none, some}
 use mathlib.Core.Path.{_∙_, _≡_, ap, refl, sym}
@@ -16,9 +16,9 @@ use Rattle.sets.specs.Tests.{_&_}
 use Rattle.text.specs.Bytes.{among, same}
 use Rattle.text.specs.Language.{CHOICE, DELMOD, DELMODVAR, DELSPEC, DELSYS, DELSYSVAR, MOD, MODVAR, NEEDS, Name, NamedMembers, OUT}
 use Rattle.text.specs.Language.{PARTS, SPEC, STANDARD, SUPPLIES, SYS, SYSVAR, Said, UNDEFINED, UNUSED, WHEREUSED, standards}
-use Rattle.text.specs.Tables.{Table, Tables, enter, given, joined, memberNames, memberVersions, modNames, modNumbered, noNames}
-use Rattle.text.specs.Tables.{number, numberedMembers, numbers, specNames, specNumbered, sysNames, sysNumbered}
-use Rattle.text_theorems.specs.Places.{enter-has, number-longer}
+use Rattle.text.specs.Tables.{Table, Tables, enter, entered, given, joined, memberNames, memberVersions, modNames, modNumbered}
+use Rattle.text.specs.Tables.{noNames, number, numberedMembers, numbers, specNames, specNumbered, sysNames, sysNumbered}
+use Rattle.text_theorems.specs.Places.{enter-has, enter-longer, number-longer}
 use Rattle.text_theorems.specs.ReadsBack.{flag}
 use Rattle.text_theorems.specs.TextLaws.{every-among, every-l, every-r, map-every, same-out, same-refl}
 
@@ -64,6 +64,33 @@ pub record Longer (t T : Tables) : Type 0 where
   pub vers : Grown (t .vers) (T .vers)
   pub facs : Grown (t .facs) (T .facs)
   pub impls : Grown (t .impls) (T .impls)
+
+grown-trans : {t u v : Table} → Grown t u → Grown u v → Grown t v
+grown-trans {t} a b = record {
+  more = a .more ++ b .more;
+  is = b .is ∙ ap (λ (z : Table). z ++ b .more) (a .is) ∙ append-assoc t (a .more) (b .more);
+}
+
+grown-enter : (t : Table) (ws : List Name) → Grown t (enter t ws)
+grown-enter t ws = let q = enter-longer t ws in record { more = q .0; is = q .1 }
+
+grown-self : (t : Table) → Grown t t
+grown-self t = record { more = []; is = sym (append-nil t) }
+
+pub longer-self : (t : Tables) → Longer t t
+longer-self t = record { comps = grown-self _; vers = grown-self _; facs = grown-self _; impls = grown-self _ }
+
+pub longer-trans : {t u v : Tables} → Longer t u → Longer u v → Longer t v
+longer-trans a b = record {
+  comps = grown-trans (a .comps) (b .comps);
+  vers = grown-trans (a .vers) (b .vers);
+  facs = grown-trans (a .facs) (b .facs);
+  impls = grown-trans (a .impls) (b .impls);
+}
+
+pub longer-entered : (t m : Tables) → Longer t (entered t m)
+unfolding entered
+longer-entered t m = record { comps = grown-enter _ _; vers = grown-enter _ _; facs = grown-enter _ _; impls = grown-enter _ _ }
 
 stays : (t T : Table) → Grown t T → (w : Name) → among w t ≡ true → number t w ≡ number T w
 stays t T l w a = sym (number-longer t (l .more) w a) ∙ ap (λ (z : Table). number z w) (sym (l .is))

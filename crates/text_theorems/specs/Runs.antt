@@ -1,7 +1,7 @@
 -- A session on the text of written commands.
 use mathlib.Core.Bool.{true}
-use mathlib.Core.List.{List, [], _++_, _∷_, append-assoc, append-nil, map}
-use mathlib.Core.Path.{_∙_, _≡_, ap, refl, subst, sym}
+use mathlib.Core.List.{List, [], _++_, _∷_, map}
+use mathlib.Core.Path.{_∙_, _≡_, ap, refl, subst}
 use Prim.Native.Nat.{_≤_, suc, zero, zero-le, ℕ}
 use native.Mathlib.Omega.{arith}
 use lib.Dec.{T}
@@ -12,16 +12,15 @@ use Rattle.model.specs.PlainBook.{answer}
 use Rattle.sets.specs.TestLaws.{and-in, and-l, and-r, if-true, ≤?-in, ≤?-out}
 use Rattle.sets.specs.Tests.{_≤?_}
 use Rattle.text.specs.Bytes.{Text, bytes}
-use Rattle.text.specs.Language.{Name, Said, command, commandOf, names, over}
+use Rattle.text.specs.Language.{Said, command, commandOf, names, over}
 use Rattle.text.specs.SameByNames.{accepted}
 use Rattle.text.specs.Session.{Result, State, add, afterwards, carry, changed, decided, decimal, lines, onRead, row, sessionFrom}
 use Rattle.text.specs.Session.{told}
-use Rattle.text.specs.Tables.{Table, Tables, enter, entered, fits, joined, modNames, modNumbered, specNames, specNumbered, sysNames}
+use Rattle.text.specs.Tables.{Table, Tables, entered, fits, joined, modNames, modNumbered, specNames, specNumbered, sysNames}
 use Rattle.text.specs.Tables.{sysNumbered}
 use Rattle.text.specs.Written.{line}
-use Rattle.text_theorems.specs.Numbered.{Grown, Longer, Numbered, mentioned, nMod, nSpec, nSys, names-in, same-mod, same-spec}
-use Rattle.text_theorems.specs.Numbered.{same-sys, std-among}
-use Rattle.text_theorems.specs.Places.{enter-longer}
+use Rattle.text_theorems.specs.Numbered.{Grown, Longer, Numbered, longer-entered, longer-self, longer-trans, mentioned, nMod}
+use Rattle.text_theorems.specs.Numbered.{nSpec, nSys, names-in, same-mod, same-spec, same-sys, std-among}
 use Rattle.text_theorems.specs.Reading.{lexing}
 use Rattle.text_theorems.specs.ReadsBack.{Writable, aMod, aSpec, aSys, command-linefeed, command-reads}
 use contract.Running.{tables}
@@ -101,37 +100,10 @@ unfoldable pub allEntered : Tables → List Said → Tables
 allEntered t [] = t
 allEntered t (k ∷ ks) = allEntered (entered t (mentioned k)) ks
 
-grown-trans : (t u v : Table) → Grown t u → Grown u v → Grown t v
-grown-trans t u v a b = record {
-  more = a .more ++ b .more;
-  is = b .is ∙ ap (λ (z : Table). z ++ b .more) (a .is)
-      ∙ append-assoc t (a .more) (b .more);
-}
-
-grown-enter : (t : Table) (ws : List Name) → Grown t (enter t ws)
-grown-enter t ws = let q = enter-longer t ws in record { more = q .0; is = q .1 }
-
 pub all-longer : (t : Tables) (ks : List Said) → Longer t (allEntered t ks)
 unfolding allEntered
-all-longer t [] = record { comps = self _; vers = self _; facs = self _; impls = self _ }
-  where
-    self : (x : Table) → Grown x x
-    self x = record { more = []; is = sym (append-nil x) }
-all-longer t (k ∷ ks) = longer-trans t (entered t (mentioned k)) _ (entered-longer t (mentioned k))
-    (all-longer (entered t (mentioned k)) ks)
-  where
-    longer-trans : (t u v : Tables) → Longer t u → Longer u v → Longer t v
-    longer-trans t u v a b = record {
-      comps = grown-trans _ _ _ (a .comps) (b .comps);
-      vers = grown-trans _ _ _ (a .vers)
-          (b .vers);
-      facs = grown-trans _ _ _ (a .facs) (b .facs);
-      impls = grown-trans _ _ _ (a .impls) (b .impls);
-    }
-
-    entered-longer : (t m : Tables) → Longer t (entered t m)
-    entered-longer t m = unfold entered in
-        record { comps = grown-enter _ _; vers = grown-enter _ _; facs = grown-enter _ _; impls = grown-enter _ _ }
+all-longer t [] = longer-self t
+all-longer t (k ∷ ks) = longer-trans (longer-entered t (mentioned k)) (all-longer (entered t (mentioned k)) ks)
 
 -- commands that the book accepts one after the other, with their numbers in T
 pub data Accepts (T : Tables) : Book → List Said → Book → Type 0 where
@@ -145,8 +117,7 @@ accepts-append stop q = q
 accepts-append (go K w n a p) q = go K w n a (accepts-append p q)
 
 pub accepts-runs : (T : Tables) → fits T ≡ true → {b b₁ : Book} {ks : List Said} → Accepts T b ks b₁ → (t : Tables)
-    → allEntered t ks
-    ≡ T → Runs (record { book = b; tables = t }) ks (record { book = b₁; tables = T })
+    → allEntered t ks ≡ T → Runs (record { book = b; tables = t }) ks (record { book = b₁; tables = T })
 unfolding allEntered reachedBy
 accepts-runs T h {b} stop t e = subst (λ (z : Tables). Runs (record { book = b; tables = t }) []
     (record { book = b; tables = z })) e done

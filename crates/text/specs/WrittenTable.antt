@@ -2,7 +2,6 @@
 use mathlib.Core.List.{List, [], _∷_, map}
 use mathlib.Core.Path.{_≡_, refl}
 use Prim.Native.String.{String}
-use Rattle.text.specs.Bytes.{bytes}
 use Rattle.text.specs.Example.{allOfText, page}
 use Rattle.text.specs.Session.{session}
 

@@ -1,4 +1,3 @@
--- names: K input
 -- The question for 25 on the tables that a text call takes, as a test that computes; and that demand 2 speaks of something.
 use mathlib.Core.Bool.{true}
 use mathlib.Core.List.{[], _∷_}
@@ -20,7 +19,6 @@ use Rattle.text_theorems.specs.Places.{none-twice, place-name, place-the
 use Rattle.theorems.specs.Good.{Good, passes→good, requires-version, version-specified}
 use Rattle.theorems.specs.MapLaws.{if-there-in, if-there-out, isSome-in, isSome-out}
 use Rattle.theorems.specs.Sequence.{always-passes}
-use contract.Running.{tables}
 
 pub names-hold : (s : State) → Good (s .book) → namesHold s ≡ true → Named s
 unfolding namesHold componentNamed versionNamed

@@ -1,5 +1,4 @@
 -- The names that the text of a book mentions: each is the name of a number in the book.
--- names: given
 use mathlib.Core.Bool.{Bool, true}
 use mathlib.Core.List.{List, [], _++_, _∷_, map, map-map}
 use mathlib.Core.Logic.{inl, inr}
@@ -14,7 +13,6 @@ use Rattle.sets.specs.TestLaws.{==-out, and-l, clash, or-out}
 use Rattle.text.specs.Bytes.{Text, among, short, validImplementation, validName}
 use Rattle.text.specs.Handed.{Named}
 use Rattle.text.specs.Language.{Name, NamedMembers, Said}
-use Rattle.text.specs.SameByNames.{at}
 use Rattle.text.specs.Tables.{Table, Tables, enter, entered, given, joined, memberNames, memberVersions, modNames, nameAt}
 use Rattle.text.specs.Tables.{specNames, sysNames}
 use Rattle.text.specs.Written.{asCommands, byName, facilityNames, membersOf, modOf, specOf, sysOf, systemsInOrder}
@@ -27,7 +25,6 @@ use Rattle.text_theorems.specs.TextLaws.{among-names-in, every-append, e
 use Rattle.theorems.specs.Frame.{mem-usable}
 use Rattle.theorems.specs.Good.{Good}
 use Rattle.theorems.specs.MapLaws.{isSome-out}
-use contract.Running.{tables}
 
 -- ---- the tables that are reached, as names put in
 

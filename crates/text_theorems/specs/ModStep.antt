@@ -1,5 +1,4 @@
 -- A module under other numbers goes into the book: its command is accepted.
--- names: yes-all none-left
 use mathlib.Core.Bool.{false, true}
 use mathlib.Core.List.{List, _∷_, map}
 use mathlib.Core.Logic.{inl, inr}
@@ -15,8 +14,6 @@ use Rattle.model.specs.PlainBook.{answer}
 use Rattle.model.specs.Questions.{eachBelow, exactly, inLimits, questions}
 use Rattle.sets.specs.TestLaws.{<?-in, all-in, and-in, bool?, iff-in, not-in, or-false}
 use Rattle.sets.specs.Tests.{_<?_, ~_}
-use Rattle.text.specs.SameByNames.{at}
-use Rattle.text.specs.Session.{fresh}
 use Rattle.text_theorems.specs.Listed.{Lists, every-of, firsts-map, lists-nonEmpty, new-beside, new-beside-no, new-each}
 use Rattle.text_theorems.specs.Listed.{new-once, new-small, seconds-map}
 use Rattle.text_theorems.specs.Renamed.{Renumbering, UsedI, UsedV, implementationOf, versionOf}

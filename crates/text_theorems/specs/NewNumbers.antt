@@ -28,7 +28,6 @@ use Rattle.text_theorems.specs.Runs.{allEntered}
 use Rattle.text_theorems.specs.TextLaws.{among-names-in, every-among, every-none, same-refl}
 use Rattle.theorems.specs.Good.{Good, requires-version, version-specified}
 use Rattle.theorems.specs.MapLaws.{has-in, isSome-in}
-use contract.Running.{tables}
 
 module _ (b : Book) (t : Tables) (g : Good b) (nm : Named (record { book = b; tables = t })) where
   abbrev S : Specs

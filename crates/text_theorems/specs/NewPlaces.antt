@@ -6,13 +6,12 @@ use mathlib.Core.Path.{_∙_, _≡_, ap, subst, sym}
 use Prim.Native.Nat.{_<_, _≤_, ℕ}
 use native.Mathlib.Nat.{le-trans}
 use native.Mathlib.Omega.{arith}
-use lib.Dec.{T}
 use lib.ListN.{length}
 use Rattle.model.specs.Lists.{nonEmpty}
 use Rattle.model.specs.Maps.{has, orElse}
 use Rattle.sets.specs.TestLaws.{==-in, ==-out, iff→≡}
 use Rattle.sets.specs.Tests.{_==_}
-use Rattle.text.specs.Bytes.{among, short}
+use Rattle.text.specs.Bytes.{among}
 use Rattle.text.specs.Handed.{Once}
 use Rattle.text.specs.Language.{Name}
 use Rattle.text.specs.Tables.{Table, nameAt, number, place}

@@ -6,7 +6,6 @@ use mathlib.Core.Option.{Option, none, some}
 use mathlib.Core.Path.{_∙_, _≡_, ap, refl, sym}
 use Prim.Native.Nat.{ℕ}
 use native.Mathlib.Omega.{arith}
-use lib.Dec.{T}
 use lib.ListN.{length}
 use Rattle.model.specs.Commands.{ADD-MOD, ADD-SPEC, ADD-SYS, Command, Members}
 use Rattle.model.specs.Lists.{every}

@@ -1,4 +1,3 @@
--- names: systemsBelow
 -- The order in which systems are written: each after its usable systems, and all of them.
 use mathlib.Core.Bool.{Bool, false, true}
 use mathlib.Core.List.{List, [], _∷_, map}
@@ -15,7 +14,6 @@ use Rattle.sets.specs.TestLaws.{fails, if-false, if-true, imp-no, imp-out, not-
 use Rattle.sets.specs.Tests.{_&_, _==_, count, ~_}
 use Rattle.text.specs.Written.{firstOf, ready, systemsFrom}
 use Rattle.text_theorems.specs.Listed.{Lists, elem-map-in, elem-map-out}
-use Rattle.text_theorems.specs.NewPlaces.{new}
 use Rattle.text_theorems.specs.Renamed.{Renumbering}
 use Rattle.theorems.specs.Good.{Good}
 use Rattle.theorems.specs.Heights.{falls}

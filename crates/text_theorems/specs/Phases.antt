@@ -4,7 +4,6 @@ use mathlib.Core.List.{List, [], _∷_, map}
 use mathlib.Core.Logic.{inl, inr}
 use mathlib.Core.Path.{_∙_, _≡_, ap, ap₂, refl, subst, sym}
 use Prim.Native.Nat.{ℕ}
-use lib.Dec.{T}
 use Rattle.model.specs.Book.{Book}
 use Rattle.model.specs.Commands.{Command, after}
 use Rattle.model.specs.Lists.{elem, once}
@@ -14,9 +13,8 @@ use Rattle.sets.specs.TestLaws.{or-false, or-l, or-out, or-r}
 use Rattle.text.specs.Bytes.{same}
 use Rattle.text.specs.Language.{Name, Said, standards}
 use Rattle.text.specs.Tables.{Tables}
-use Rattle.text_theorems.specs.NewNumbers.{newC, oldC}
 use Rattle.text_theorems.specs.Numbered.{Numbered}
-use Rattle.text_theorems.specs.Order.{Can, InTurn, none-left, one-more}
+use Rattle.text_theorems.specs.Order.{InTurn, none-left, one-more}
 use Rattle.text_theorems.specs.ReadsBack.{Writable, flag}
 use Rattle.text_theorems.specs.Renamed.{Renaming}
 use Rattle.text_theorems.specs.Runs.{Accepts, go, stop}

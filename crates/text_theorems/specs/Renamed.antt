@@ -1,4 +1,3 @@
--- names: p r
 -- A book under other numbers: the needs and the rules B3 to B9 do not change.
 use mathlib.Core.Bool.{Bool, false, true}
 use mathlib.Core.Logic.{inl, inr}
@@ -18,7 +17,6 @@ use Rattle.text_theorems.specs.TextLaws.{has-map, if-cong, if-there-map,
 use Rattle.theorems.specs.Frame.{composed-system, composition-in, composition-out, mem-usable, system-in, system-out}
 use Rattle.theorems.specs.Good.{Good}
 use Rattle.theorems.specs.Heights.{usable-system}
-use Rattle.theorems.specs.KeepVersions.{S₁}
 use Rattle.theorems.specs.MapLaws.{has-cong, has-out, if-there-cong, isSome-out, optionMap-some}
 
 -- new numbers g n for the numbers n that are used, old numbers f m for the new ones

@@ -1,5 +1,4 @@
 -- What a book says under other numbers.
--- names: required
 use mathlib.Core.Bool.{Bool, false, true}
 use mathlib.Core.List.{List, [], _∷_}
 use mathlib.Core.Logic.{inl, inr}

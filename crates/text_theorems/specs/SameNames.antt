@@ -25,7 +25,6 @@ use Rattle.text_theorems.specs.TextLaws.{among-names-in, among-names-out
 use Rattle.text_theorems.specs.Unique.{byName-among, byName-rises, unique}
 use Rattle.theorems.specs.Frame.{mem-usable}
 use Rattle.theorems.specs.MapLaws.{has-cong, has-in, has-out, isSome-in, isSome-out}
-use denote.Triple.Walked.{says}
 
 at-here : (t : Table) (w : Name) (n : ℕ) (P : ℕ → Bool) → place t w ≡ some n → at t w P ≡ P n
 unfolding at has

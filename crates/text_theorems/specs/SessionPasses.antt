@@ -1,5 +1,4 @@
 -- Every state that a session reaches passes the question for 25, its book and its tables: for every text.
--- names: required
 use mathlib.Core.Bool.{Bool, true}
 use mathlib.Core.List.{[], _∷_}
 use mathlib.Core.Option.{Option·some-injective, some}
@@ -30,7 +29,7 @@ use Rattle.theorems.specs.Good.{Good, good→passes, passes→good, requires-ve
 use Rattle.theorems.specs.MapLaws.{andThen-out, has-out, isSome-out, no-some}
 use Rattle.theorems.specs.PartsRight.{PartsRight}
 use Rattle.theorems.specs.Sequence.{empty-passes, passes-parts}
-use Rattle.theorems.specs.Keep.{accepted as accepted′}  -- keep
+use Rattle.theorems.specs.Keep.{accepted as accepted′}
 
 -- what is true of every state that a session reaches
 pub record Reached (s : State) : Type 0 where

@@ -1,5 +1,4 @@
 -- A spec under other numbers goes into the book: its command is accepted.
--- names: yes-all none-left hasVersion-at requires-at provides-at standard-at
 use mathlib.Core.Bool.{false, true}
 use mathlib.Core.List.{List, _∷_, map}
 use mathlib.Core.Logic.{inl, inr}
@@ -16,7 +15,6 @@ use Rattle.model.specs.Questions.{eachBelow, free, inLimits, questions}
 use Rattle.sets.specs.Sets.{Set}
 use Rattle.sets.specs.TestLaws.{<?-in, and-in, bool?, not-in, ≤?-in}
 use Rattle.sets.specs.Tests.{_<?_}
-use Rattle.text.specs.Session.{fresh}
 use Rattle.text_theorems.specs.Listed.{Lists, every-of, firsts-map, lists-length, lists-nonEmpty, new-beside, new-beside-no}
 use Rattle.text_theorems.specs.Listed.{new-each, new-once, new-small, seconds-map}
 use Rattle.text_theorems.specs.Renamed.{Renumbering, UsedF, UsedV, providedBy, requiredBy, versionOf}

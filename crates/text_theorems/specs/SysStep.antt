@@ -1,5 +1,4 @@
 -- A system under other numbers goes into the book, after its usable systems: its command is accepted.
--- names: yes-all none-left isSystem-same usable-same composed-same member-same
 use mathlib.Core.Bool.{false, true}
 use mathlib.Core.List.{List, _∷_, map}
 use mathlib.Core.Logic.{inl, inr}
@@ -16,8 +15,6 @@ use Rattle.model.specs.Questions.{eachBelow, exactly, inLimits, memberBelow, no
 use Rattle.model.specs.Rules.{B3, B4, B5, B5-to-B9, B5at}
 use Rattle.sets.specs.TestLaws.{<?-in, all-in, and-in, and-l, any-out, bool?, clash, fails, iff-in, not-in}
 use Rattle.sets.specs.Tests.{_<?_}
-use Rattle.text.specs.SameByNames.{at}
-use Rattle.text.specs.Session.{fresh}
 use Rattle.text_theorems.specs.Listed.{Lists, every-of, firsts-map, lists-nonEmpty, new-beside, new-beside-no, new-each}
 use Rattle.text_theorems.specs.Listed.{new-once, new-small, seconds-map}
 use Rattle.text_theorems.specs.ModStep.{is-undefined}

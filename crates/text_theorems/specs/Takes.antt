@@ -13,7 +13,6 @@ use Rattle.text.specs.Language.{add-sysvar, ahead, aheadOf, byWord, choice, com
 use Rattle.text.specs.Language.{imp, key, listIn, listOf, modVersion, name, nameOf, names, namesUpTo, ofOne, ofPair, over, pair}
 use Rattle.text.specs.Language.{point, quotedOf, readAs, requirements, said, semicolon, specVersion, standards, sysVersion, theOne}
 use Rattle.text.specs.Language.{want, wantOf, when, wrong}
-use Rattle.text.specs.SameByNames.{at}
 use Rattle.text.specs.Tokens.{Next, Token, bad, end, isToken, mark, nextToken, quoted, token, word}
 use Rattle.text_theorems.specs.Left.{Left, LeftN, LeftO, left-after, left-all, left-less, left-then, next-left}
 use Rattle.text_theorems.specs.TextLaws.{Each, _also_, by-test, by-word, no-more}

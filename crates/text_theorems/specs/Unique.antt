@@ -15,7 +15,6 @@ use Rattle.text.specs.Bytes.{among, same}
 use Rattle.text.specs.Handed.{Once}
 use Rattle.text.specs.Language.{Name}
 use Rattle.text.specs.Tables.{Table, nameAt, place}
-use Rattle.text.specs.TablesTable.{full}
 use Rattle.text.specs.Written.{before, byName, insert, sorted}
 use Rattle.text_theorems.specs.Listed.{Lists, byName-lists, every-of, insert-elem, rising-once, sorted-elem}
 use Rattle.text_theorems.specs.Places.{place-name, place-of}

@@ -17,7 +17,6 @@ use Rattle.text.specs.Language.{_>>=_, _>>_, add-mod, add-modvar, add-spec, add
 use Rattle.text.specs.Language.{commandOf, compo, compos, equals, give, grammar, imp, key, listIn, listOf, modVersion, name, nameOf}
 use Rattle.text.specs.Language.{names, namesUpTo, ofOne, ofPair, over, pair, point, quotedOf, readAs, requirements, said, semicolon}
 use Rattle.text.specs.Language.{specVersion, standards, sysVersion, theOne, want, when, wrong}
-use Rattle.text.specs.SameByNames.{at}
 use Rattle.text.specs.Tokens.{Next, Token, bad, closing, end, mark, nextToken, quoted, run, skip, skipped, token, tokenAt, word}
 use Rattle.text_theorems.specs.ReadsBack.{okMod, okVersion}
 use Rattle.text_theorems.specs.TextLaws.{Each, _also_, by-test, by-word, every-cons, every-map, every-none, no-more}

@@ -77,8 +77,8 @@ module _ (inC inV inF inI : Set) where
       → ModuleAt c m → ModuleAt c (put v o m)
   with-implementation v o h c m a = put-all (λ k i. inI i ≡ true) m a v o h
 
-  new-spec : (ps : List ℕ) (vs : List (ℕ × List ℕ)) (s : ℕ) → every inF ps ≡ true → every (λ x. inV (x .0) & every inF (x .1)) vs
-      ≡ true
+  new-spec : (ps : List ℕ) (vs : List (ℕ × List ℕ)) (s : ℕ) → every inF ps ≡ true
+      → every (λ x. inV (x .0) & every inF (x .1)) vs ≡ true
       → SpecNumbers inV inF (record { prov = setOf ps; req = λ v. optionMap setOf (beside vs v); std = s })
   unfolding setOf
   new-spec ps vs s hp hv = record {

@@ -18,7 +18,7 @@ use Rattle.text.specs.Session.{State, session}
 use Rattle.text.specs.Tables.{Table, Tables, place}
 use Rattle.text.specs.Written.{asCommands}
 use Rattle.text_theorems.specs.BookLaws.{implementation-module, provides-specified}
-use Rattle.text_theorems.specs.NamedGood.{passes→named}
+use Rattle.text_theorems.specs.NamedGood.{NamedGood, passes→named}
 use Rattle.text_theorems.specs.NewNumbers.{atC, atF, atI, atV, reachedTables, renumbering}
 use Rattle.text_theorems.specs.NewPlaces.{eq-through}
 use Rattle.text_theorems.specs.Rebuilt.{rebuilt, text-read}
@@ -32,7 +32,19 @@ use Rattle.theorems.specs.Heights.{usable-system}
 use Rattle.theorems.specs.MapLaws.{has-cong, has-out, isSome-in}
 use contract.Running.{tables}
 
-module _ (b : Book) (t : Tables) (g : Good b) (nm : Named (record { book = b; tables = t })) where
+module _ (st : State) (ok : NamedGood st) where
+  abbrev b : Book
+  b = st .book
+
+  abbrev t : Tables
+  t = st .tables
+
+  abbrev g : Good b
+  g = ok .good
+
+  abbrev nm : Named st
+  nm = ok .named
+
   abbrev S : Specs
   S = b .specs
 
@@ -43,7 +55,7 @@ module _ (b : Book) (t : Tables) (g : Good b) (nm : Named (record { book = b; ta
   Y = b .systems
 
   abbrev re : Renumbering S M
-  re = renumbering b t g nm
+  re = renumbering st ok
 
   -- what a name's number passes, some number passes
   at-out : (x : Table) (w : Name) (P : ℕ → Bool) → has (place x w) P ≡ true → (n : ℕ) × (P n ≡ true)
@@ -69,44 +81,40 @@ module _ (b : Book) (t : Tables) (g : Good b) (nm : Named (record { book = b; ta
   impl-version : (c v i : ℕ) → implementation M c v ≡ some i → hasVersion S c v ≡ true
   impl-version c v i e = sym (g .b2 .mod-covers c v (implementation-module M c v i e)) ∙ isSome-in _ e
 
-  same-facts : Same (record { book = rebuilt b t g nm; tables = reachedTables b t g nm }) (record { book = b; tables = t })
+  same-facts : Same (record { book = rebuilt st ok; tables = reachedTables st ok }) st
   unfolding holds at
-  same-facts (IsSpecified c) = atC b t g nm c _ _ (specified′ b re) (λ n e. e)
-  same-facts (IsModule c) = atC b t g nm c _ _ (isModule′ b re) (λ n e. g .b2 .mod-spec n e)
-  same-facts (IsSystem c) = atC b t g nm c _ _ (isSystem′ b re) (λ n e. g .b2 .sys-spec n e)
-  same-facts (Provides c f) = atC b t g nm c _ _ (λ m. atF b t g nm f _ _ (provides′ b re m) (λ n e. providedBy _ e))
+  same-facts (IsSpecified c) = atC st ok c _ _ (specified′ b re) (λ n e. e)
+  same-facts (IsModule c) = atC st ok c _ _ (isModule′ b re) (λ n e. g .b2 .mod-spec n e)
+  same-facts (IsSystem c) = atC st ok c _ _ (isSystem′ b re) (λ n e. g .b2 .sys-spec n e)
+  same-facts (Provides c f) = atC st ok c _ _ (λ m. atF st ok f _ _ (provides′ b re m) (λ n e. providedBy _ e))
       (λ n e. let q = at-out _ f _ e in provides-specified S n (q .0) (q .1))
-  same-facts (Version c v) = atC b t g nm c _ _ (λ m. atV b t g nm v _ _ (hasVersion′ b re m) (λ n e. versionOf _ e))
+  same-facts (Version c v) = atC st ok c _ _ (λ m. atV st ok v _ _ (hasVersion′ b re m) (λ n e. versionOf _ e))
       (λ n e. let q = at-out _ v _ e in version-specified S n (q .0) (q .1))
-  same-facts (Standard c v) = atC b t g nm c _ _ (λ m. atV b t g nm v _ _
+  same-facts (Standard c v) = atC st ok c _ _ (λ m. atV st ok v _ _
       (λ k. ap (λ (x : Bool). x & k == standard (newSpecs b re) m) (specified′ b re m)
       ∙ and-cong _ (λ e. ap (λ (x : ℕ). k == x) (standard′ m e) ∙ eq-through (re .ofV) k _ (versionOf _ (g .b1 .std-in _ e))))
       (λ n e. versionOf (re .oldC m) (ap (hasVersion S (re .oldC m)) (==-out _ _ (and-r _ _ e)) ∙ g .b1 .std-in _ (and-l _ _ e))))
       (λ n e. let q = at-out _ v _ e in and-l _ _ (q .1))
-  same-facts (Usable c d) = atC b t g nm c _ _ (λ m. atC b t g nm d _ _ (usable′ b re m) (λ n e. g .b2 .use-spec _ n e))
+  same-facts (Usable c d) = atC st ok c _ _ (λ m. atC st ok d _ _ (usable′ b re m) (λ n e. g .b2 .use-spec _ n e))
       (λ n e. let q = at-out _ d _ e in g .b2 .sys-spec n (usable-system Y n (q .0) (q .1)))
-  same-facts (Composed c v) = atC b t g nm c _ _
-      (λ m. atV b t g nm v _ _ (composed′ b re m) (λ n e. versionOf _ (sym (g .b2 .sys-covers _ n (sys-of _ n e)) ∙ e)))
+  same-facts (Composed c v) = atC st ok c _ _
+      (λ m. atV st ok v _ _ (composed′ b re m) (λ n e. versionOf _ (sym (g .b2 .sys-covers _ n (sys-of _ n e)) ∙ e)))
       (λ n e. let q = at-out _ v _ e in g .b2 .sys-spec n (sys-of n (q .0) (q .1)))
-  same-facts (Requires c v f) = atC b t g nm c _ _
-      (λ m. atV b t g nm v _ _ (λ k. atF b t g nm f _ _ (requires′ b re m k) (λ n e. requiredBy _ _ e))
+  same-facts (Requires c v f) = atC st ok c _ _
+      (λ m. atV st ok v _ _ (λ k. atF st ok f _ _ (requires′ b re m k) (λ n e. requiredBy _ _ e))
       (λ n e. let q = at-out _ f _ e in versionOf _ (requires-version S _ n (q .0) (q .1))))
       (λ n e. let q = at-out _ v _ e in let r = at-out _ f _ (q .1) in
       version-specified S n (q .0) (requires-version S n (q .0) (r .0) (r .1)))
-  same-facts (Implemented c v i) = atC b t g nm c _ _
-      (λ m. atV b t g nm v _ _
-      (λ k. atI b t g nm i _ _ (λ j. ap (λ (o : Option ℕ). has o (λ z. j == z)) (implementation′ b re m k) ∙ has-map _ _ _
+  same-facts (Implemented c v i) = atC st ok c _ _ (λ m. atV st ok v _ _
+      (λ k. atI st ok i _ _ (λ j. ap (λ (o : Option ℕ). has o (λ z. j == z)) (implementation′ b re m k) ∙ has-map _ _ _
       ∙ has-cong _ (λ z e. eq-through (re .ofI) j z (implementationOf _ _ e)))
       (λ n e. let q = has-out _ _ e in implementationOf _ _ (q .1 ∙ ap some (sym (==-out _ _ (q .2))))))
       (λ n e. let q = at-out _ i _ e in let r = has-out _ _ (q .1) in versionOf _ (impl-version _ n (r .0) (r .1))))
       (λ n e. let q = at-out _ v _ e in let p = at-out _ i _ (q .1) in let r = has-out _ _ (p .1) in
       g .b2 .mod-spec n (implementation-module M n (q .0) (r .0) (r .1)))
-  same-facts (Member c v d w) = atC b t g nm c _ _
-      (λ m. atV b t g nm v _ _
-      (λ k. atC b t g nm d _ _
-      (λ j. atV b t g nm w _ _ (λ x. ap (λ (o : Option ℕ). has o (λ z. x == z)) (member′ b re m k j) ∙ has-map _ _ _
-      ∙ has-cong _ (λ z e. eq-through (re .ofV) x z
-      (versionOf _ (mem-usable S Y (g .systemLimits) (g .b5) _ _ _ z e .1))))
+  same-facts (Member c v d w) = atC st ok c _ _ (λ m. atV st ok v _ _ (λ k. atC st ok d _ _
+      (λ j. atV st ok w _ _ (λ x. ap (λ (o : Option ℕ). has o (λ z. x == z)) (member′ b re m k j) ∙ has-map _ _ _
+      ∙ has-cong _ (λ z e. eq-through (re .ofV) x z (versionOf _ (mem-usable S Y (g .systemLimits) (g .b5) _ _ _ z e .1))))
       (λ n e. let q = has-out _ _ e in
       versionOf _ (mem-usable S Y (g .systemLimits) (g .b5) _ _ _ n (q .1 ∙ ap some (sym (==-out _ _ (q .2)))) .1)))
       (λ n e. let q = at-out _ w _ e in let r = has-out _ _ (q .1) in member-spec _ _ n (r .0) (r .1)))
@@ -120,7 +128,7 @@ pub reads-back : (s : State) → PassesNamed s
     → (session (textOf s) .0 ≡ accepted 1 (length (asCommands (s .book) (s .tables)))) × Same (session (textOf s) .1) s
 reads-back s q =
     let h = passes→named q in
-    let e = text-read (s .book) (s .tables) (h .good) (h .named) in (
+    let e = text-read s h in (
       ap (λ (x : Text × State). x .0) e,
-      λ x. ap (λ (y : Text × State). holds (y .1) x) e ∙ same-facts (s .book) (s .tables) (h .good) (h .named) x,
+      λ x. ap (λ (y : Text × State). holds (y .1) x) e ∙ same-facts s h x,
     )

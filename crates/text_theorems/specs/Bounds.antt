@@ -78,8 +78,8 @@ session-enough (suc n) (suc m) i s t a b = read-same _ _ i s t (command t) (comm
 
 -- ---- the laws without a bound, for code to follow
 
-pub list-step : {A : Type 0} (k : Token) (p : Reader A) → Takes 1 p → (t : Text) → listOf k p t
-    ≡ (p >>= (λ x. ahead k >>= (λ on. when on [] (listOf k p) >>= (λ xs. give (x ∷ xs))))) t
+pub list-step : {A : Type 0} (k : Token) (p : Reader A) → Takes 1 p → (t : Text)
+    → listOf k p t ≡ (p >>= (λ x. ahead k >>= (λ on. when on [] (listOf k p) >>= (λ xs. give (x ∷ xs))))) t
 unfolding listOf listIn _>>=_
 list-step k p e t =
     list-enough k p e (length t) (suc (length t)) t (le-refl _) (omega arith)
@@ -89,8 +89,8 @@ list-step k p e t =
     (when-same on [] (listIn (length t) k p) (λ w. listIn (length w) k p w) v
     (list-enough k p e (length t) (length v) v (omega arith) (le-refl _)))))
 
-pub session-step : (i : ℕ) (s : State) (t : Text) → sessionFrom (length t) i s t
-    ≡ onRead (λ s′ u. sessionFrom (length u) (suc i) s′ u) i s (command t)
+pub session-step : (i : ℕ) (s : State) (t : Text)
+    → sessionFrom (length t) i s t ≡ onRead (λ s′ u. sessionFrom (length u) (suc i) s′ u) i s (command t)
 unfolding sessionFrom
 session-step i s t =
     session-enough (length t) (suc (length t)) i s t (le-refl _) (omega arith)

@@ -74,9 +74,9 @@ commands-few s p =
     let cs = byName (s .tables .comps) components (specified (s .book .specs)) in
     let ms = byName (s .tables .comps) components (isModule (s .book .modules)) in
     let ss = systemsFrom components (s .book .systems) (byName (s .tables .comps) components (isSystem (s .book .systems))) [] in
-    let a = le-trans (lists-length components cs _ (cs-lists (s .book) (s .tables) (p .good) (p .named))
+    let a = le-trans (lists-length components cs _ (cs-lists s p)
     (λ n e. p .good .specLimits .component< n e)) (count-le components _) in
-    let b = le-trans (lists-length components ms _ (ms-lists (s .book) (s .tables) (p .good) (p .named))
+    let b = le-trans (lists-length components ms _ (ms-lists s p)
     (λ n e. p .good .moduleLimits .component< n e)) (count-le components _) in
     let c = systems-few components (s .book .systems) (byName (s .tables .comps) components (isSystem (s .book .systems))) [] in
     let la = length-map (specOf (s .book) (s .tables)) cs in let lb = length-map (modOf (s .book) (s .tables)) ms in

@@ -13,10 +13,12 @@ use Rattle.sets.specs.TestLaws.{==-out, and-l, clash, or-out}
 use Rattle.text.specs.Bytes.{Text, among, short, validImplementation, validName}
 use Rattle.text.specs.Handed.{Named}
 use Rattle.text.specs.Language.{Name, NamedMembers, Said}
+use Rattle.text.specs.Session.{State}
 use Rattle.text.specs.Tables.{Table, Tables, enter, entered, given, joined, memberNames, memberVersions, modNames, nameAt}
 use Rattle.text.specs.Tables.{specNames, sysNames}
 use Rattle.text.specs.Written.{asCommands, byName, facilityNames, membersOf, modOf, specOf, sysOf, systemsInOrder}
 use Rattle.text_theorems.specs.Listed.{Lists, byName-lists, every-of}
+use Rattle.text_theorems.specs.NamedGood.{NamedGood}
 use Rattle.text_theorems.specs.Numbered.{mentioned}
 use Rattle.text_theorems.specs.Order.{systems-are}
 use Rattle.text_theorems.specs.Places.{among-l, among-out, among-r}
@@ -33,26 +35,26 @@ unfolding enter
 enter-append t [] ys = refl
 enter-append t (x ∷ xs) ys = enter-append _ xs ys
 
-pub entered-comps : (t : Tables) (ks : List Said) → allEntered t ks .comps
-    ≡ enter (t .comps) (joined (map (λ k. mentioned k .comps) ks))
+pub entered-comps : (t : Tables) (ks : List Said)
+    → allEntered t ks .comps ≡ enter (t .comps) (joined (map (λ k. mentioned k .comps) ks))
 unfolding allEntered joined entered enter
 entered-comps t [] = refl
 entered-comps t (k ∷ ks) = entered-comps (entered t (mentioned k)) ks ∙ sym (enter-append (t .comps) (mentioned k .comps) _)
 
-pub entered-vers : (t : Tables) (ks : List Said) → allEntered t ks .vers
-    ≡ enter (t .vers) (joined (map (λ k. mentioned k .vers) ks))
+pub entered-vers : (t : Tables) (ks : List Said)
+    → allEntered t ks .vers ≡ enter (t .vers) (joined (map (λ k. mentioned k .vers) ks))
 unfolding allEntered joined entered enter
 entered-vers t [] = refl
 entered-vers t (k ∷ ks) = entered-vers (entered t (mentioned k)) ks ∙ sym (enter-append (t .vers) (mentioned k .vers) _)
 
-pub entered-facs : (t : Tables) (ks : List Said) → allEntered t ks .facs
-    ≡ enter (t .facs) (joined (map (λ k. mentioned k .facs) ks))
+pub entered-facs : (t : Tables) (ks : List Said)
+    → allEntered t ks .facs ≡ enter (t .facs) (joined (map (λ k. mentioned k .facs) ks))
 unfolding allEntered joined entered enter
 entered-facs t [] = refl
 entered-facs t (k ∷ ks) = entered-facs (entered t (mentioned k)) ks ∙ sym (enter-append (t .facs) (mentioned k .facs) _)
 
-pub entered-impls : (t : Tables) (ks : List Said) → allEntered t ks .impls
-    ≡ enter (t .impls) (joined (map (λ k. mentioned k .impls) ks))
+pub entered-impls : (t : Tables) (ks : List Said)
+    → allEntered t ks .impls ≡ enter (t .impls) (joined (map (λ k. mentioned k .impls) ks))
 unfolding allEntered joined entered enter
 entered-impls t [] = refl
 entered-impls t (k ∷ ks) = entered-impls (entered t (mentioned k)) ks ∙ sym (enter-append (t .impls) (mentioned k .impls) _)
@@ -118,7 +120,19 @@ impl-some w v = and-l _ _ (and-l _ _ v)
 
 -- ---- a book
 
-module _ (b : Book) (t : Tables) (g : Good b) (nm : Named (record { book = b; tables = t })) where
+module _ (st : State) (ok : NamedGood st) where
+  abbrev b : Book
+  b = st .book
+
+  abbrev t : Tables
+  t = st .tables
+
+  abbrev g : Good b
+  g = ok .good
+
+  abbrev nm : Named st
+  nm = ok .named
+
   abbrev S : Specs
   S = b .specs
 
@@ -211,8 +225,8 @@ module _ (b : Book) (t : Tables) (g : Good b) (nm : Named (record { book = b; ta
               ap (λ (o : Option ℕ). ti (nameAt (t .impls) (orElse o 0))) (q .1) ∙ h .implemented c v (q .0) (q .1));
         }
 
-    member-names : (s v : ℕ) → memberNames (membersOf b t s v)
-        ≡ map (nameAt (t .comps)) (byName (t .comps) components (isMember Y s v))
+    member-names : (s v : ℕ)
+        → memberNames (membersOf b t s v) ≡ map (nameAt (t .comps)) (byName (t .comps) components (isMember Y s v))
     unfolding memberNames membersOf
     member-names s v = map-map _ _ (byName (t .comps) components (isMember Y s v))
 

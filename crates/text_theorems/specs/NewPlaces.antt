@@ -27,11 +27,23 @@ new t T n = number T (nameAt t n)
 unfoldable pub old : Table → Table → ℕ → ℕ → ℕ
 old t T L m = orElse (place t (nameAt T m)) L
 
-module _ (t T : Table) (L : ℕ) (Use : ℕ → Type 0) (ot : Once t) (aT : apart T ≡ true) (short : length T ≤ L)
-    (used : (n : ℕ) → Use n → (n < L) × (nonEmpty (nameAt t n) ≡ true) × (among (nameAt t n) T ≡ true)) where
+-- a number n of the table t, with its place in the table T
+pub record InBoth (t T : Table) (L n : ℕ) : Type 0 where
+  pub small : n < L
+  pub named : nonEmpty (nameAt t n) ≡ true
+  pub there : among (nameAt t n) T ≡ true
+
+-- the numbers that are used have names in both tables, and no name stands twice
+pub record TwoTables (t T : Table) (L : ℕ) (Use : ℕ → Type 0) : Type 0 where
+  pub once : Once t
+  pub different : apart T ≡ true
+  pub short : length T ≤ L
+  pub used : (n : ℕ) → Use n → InBoth t T L n
+
+module _ {t T : Table} {L : ℕ} {Use : ℕ → Type 0} (two : TwoTables t T L Use) where
   at-new : (n : ℕ) → Use n → place T (nameAt t n) ≡ some (new t T n)
   unfolding new
-  at-new n u = let q = isSome-out _ (place-there T (nameAt t n) (used n u .2)) in q .1
+  at-new n u = let q = isSome-out _ (place-there T (nameAt t n) (two .used n u .there)) in q .1
       ∙ ap some (sym (number-at T (nameAt t n) (q .0) (q .1)))
 
   old-at : (m n : ℕ) → place t (nameAt T m) ≡ some n → old t T L m ≡ n
@@ -46,17 +58,18 @@ module _ (t T : Table) (L : ℕ) (Use : ℕ → Type 0) (ot : Once t) (aT : apar
   unfolding new
   new-old m n e h =
       let q = place-name t (nameAt T m) n e .0 in
-      number-at T (nameAt t n) m (ap (place T) q ∙ place-of T (apart-once T aT) m (subst (λ (z : Name). nonEmpty z ≡ true) q h))
+      number-at T (nameAt t n) m (ap (place T) q
+      ∙ place-of T (apart-once T (two .different)) m (subst (λ (z : Name). nonEmpty z ≡ true) q h))
 
   pub renaming : Renaming (old t T L) (new t T) L Use
   renaming = record {
     back = λ n u. old-at (new t T n) n (ap (place t) (place-name T (nameAt t n) (new t T n) (at-new n u) .0)
-        ∙ place-of t ot n (used n u .1));
-    small = λ n u. le-trans (place-name T (nameAt t n) (new t T n) (at-new n u) .1) short;
+        ∙ place-of t (two .once) n (two .used n u .named));
+    small = λ n u. le-trans (place-name T (nameAt t n) (new t T n) (at-new n u) .1) (two .short);
     forth = λ m u. elim (option? (place t (nameAt T m))) [
-      | inl e ↦ (let h = used _ u .0 in let z = old-no m e in absurd (omega arith))
+      | inl e ↦ (let h = two .used _ u .small in let z = old-no m e in absurd (omega arith))
       | inr q ↦ (let z = old-at m (q .0) (q .1) in ap (new t T) z
-          ∙ new-old m (q .0) (q .1) (subst (λ (k : ℕ). nonEmpty (nameAt t k) ≡ true) z (used _ u .1)))
+          ∙ new-old m (q .0) (q .1) (subst (λ (k : ℕ). nonEmpty (nameAt t k) ≡ true) z (two .used _ u .named)))
     ];
   }
 
@@ -66,7 +79,7 @@ module _ (t T : Table) (L : ℕ) (Use : ℕ → Type 0) (ot : Once t) (aT : apar
   at-through w P P′ h u = iff→≡ _ _
       (λ e. let q = has-out _ _ e in let m = q .0 in let a = place-name T w m (q .1) .0 in let k = sym (h m) ∙ q .2 in
       elim (option? (place t (nameAt T m))) [
-        | inl z ↦ (let b = used _ (u _ k) .0 in let c = old-no m z in absurd (omega arith))
+        | inl z ↦ (let b = two .used _ (u _ k) .small in let c = old-no m z in absurd (omega arith))
         | inr z ↦ has-in _ _ (z .0) (ap (place t) (sym a) ∙ z .1) (ap P (sym (old-at m (z .0) (z .1))) ∙ k)
       ])
       (λ e. let q = has-out _ _ e in let n = q .0 in let a = place-name t w n (q .1) .0 in let k = u n (q .2) in

@@ -111,8 +111,8 @@ spec-in tv tf [] a b = refl
 spec-in tv tf (x ∷ xs) a b =
     and-in _ _ (and-in _ _ (and-l _ _ a) (every-l _ (x .1) _ b)) (spec-in tv tf xs (and-r _ _ a) (every-r _ (x .1) _ b))
 
-pub std-among : (s : Name) (vs : List (Name × List Name)) → standards (map (flag s) vs) ≡ s ∷ [] → among s (map (λ x. x .0) vs)
-    ≡ true
+pub std-among : (s : Name) (vs : List (Name × List Name)) → standards (map (flag s) vs) ≡ s ∷ []
+    → among s (map (λ x. x .0) vs) ≡ true
 unfolding standards flag among
 std-among s [] e = absurd (let z : _≡_ {A = ℕ} 0 1 = ap length e in omega arith)
 std-among s (x ∷ xs) e =
@@ -124,8 +124,9 @@ std-among s (x ∷ xs) e =
 unfoldable pub modIn : (tv ti : Table) → Name × Name → Bool
 modIn tv ti x = among (x .0) tv & among (x .1) ti
 
-pub mod-in : (tv ti : Table) (is : List (Name × Name)) → inside tv (map (λ x. x .0) is) ≡ true → inside ti (map (λ x. x .1) is)
-    ≡ true → every (modIn tv ti) is ≡ true
+pub mod-in : (tv ti : Table) (is : List (Name × Name)) → inside tv (map (λ x. x .0) is) ≡ true
+    → inside ti (map (λ x. x .1) is) ≡ true
+    → every (modIn tv ti) is ≡ true
 unfolding every inside modIn
 mod-in tv ti [] a b = refl
 mod-in tv ti (x ∷ xs) a b = and-in _ _ (and-in _ _ (and-l _ _ a) (and-l _ _ b)) (mod-in tv ti xs (and-r _ _ a) (and-r _ _ b))
@@ -238,8 +239,8 @@ sysOne t T l x h =
 
 pub same-sys : (t T : Tables) (c : Name) (us : List Name) (ks : List (Name × NamedMembers)) → Longer t T
     → inside (t .comps) (c ∷ us ++ joined (map (λ x. memberNames (x .1)) ks)) ≡ true
-    → inside (t .vers) (joined (map (λ x. x .0 ∷ memberVersions (x .1)) ks)) ≡ true → sysNumbered t c us ks
-    ≡ sysNumbered T c us ks
+    → inside (t .vers) (joined (map (λ x. x .0 ∷ memberVersions (x .1)) ks)) ≡ true
+    → sysNumbered t c us ks ≡ sysNumbered T c us ks
 unfolding sysNumbered
 same-sys t T c us ks l ic iv =
     let e₁ = stays _ _ (l .comps) c (in-head _ c _ ic) in

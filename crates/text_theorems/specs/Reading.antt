@@ -137,8 +137,8 @@ want-equals t = refl
 
 -- ---- readers
 
-pub bind : {A B : Type 0} (p : Reader A) (f : A → Reader B) (t : Text) {a : A} {u : Text} → p t ≡ some (a, u) → _>>=_ p f t
-    ≡ f a u
+pub bind : {A B : Type 0} (p : Reader A) (f : A → Reader B) (t : Text) {a : A} {u : Text} → p t ≡ some (a, u)
+    → _>>=_ p f t ≡ f a u
 unfolding _>>=_ andThen
 bind p f t e = ap (λ (o : Option _). andThen o (λ x. f (x .0) (x .1))) e
 
@@ -183,8 +183,8 @@ module _ {A : Type 0} (k : Token) (p : Reader A) (P : A → Text) (sep : Text) (
         ∙ bind (ahead k) _ _ (law .on (more ++ tail))
         ∙ bind _ _ _ (list-in (y ∷ ys) (unfold nonEmpty in refl) (and-r _ _ o) n (omega arith))
 
-    pub list-reads : (xs : List A) → nonEmpty xs ≡ true → every ok xs ≡ true → listOf k p (32 ∷ (parted sep (map P xs) ++ tail))
-        ≡ some (xs, tail)
+    pub list-reads : (xs : List A) → nonEmpty xs ≡ true → every ok xs ≡ true
+        → listOf k p (32 ∷ (parted sep (map P xs) ++ tail)) ≡ some (xs, tail)
     unfolding listOf
     list-reads xs e o =
         list-in xs e o _ (let w = length-parted sep (law .wide) (map P xs) in

@@ -35,8 +35,8 @@ flaggedPiece y = (if y .0 then bytes "std " else []) ++ (y .1 .0 ++ requiring (y
 okFlagged : Flagged → Bool
 okFlagged y = validName (y .1 .0) & every validName (y .1 .1)
 
-requirements-read : (rs : List Name) (t : Text) → every validName rs ≡ true → Tail t → requirements (requiring rs ++ t)
-    ≡ some (rs, t)
+requirements-read : (rs : List Name) (t : Text) → every validName rs ≡ true → Tail t
+    → requirements (requiring rs ++ t) ≡ some (rs, t)
 unfolding requirements requiring when
 requirements-read [] t o h = bind (ahead (key "requires")) _ t (tail-requires t h)
 requirements-read (r ∷ rs) t o h =
@@ -195,8 +195,8 @@ member-law = record {
   wide = unfold lexing in omega arith;
 }
 
-sysVersion-read : (x : Name × NamedMembers) (t : Text) → okSys x ≡ true → Tail t → sysVersion (32 ∷ (sysPiece x ++ t))
-    ≡ some (x, t)
+sysVersion-read : (x : Name × NamedMembers) (t : Text) → okSys x ≡ true → Tail t
+    → sysVersion (32 ∷ (sysPiece x ++ t)) ≡ some (x, t)
 unfolding sysVersion sysPiece okSys give commas compos
 sysVersion-read x t o h =
     ap (λ (l : Text). sysVersion (32 ∷ l)) (append-assoc (x .0) _ t
@@ -214,8 +214,9 @@ sys-law = record {
   wide = unfold lexing in omega arith;
 }
 
-sys-reads : (c : Name) (us : List Name) (ks : List (Name × NamedMembers)) (t : Text) → validName c ≡ true → every validName us
-    ≡ true → nonEmpty us ≡ true → every okSys ks ≡ true → nonEmpty ks ≡ true
+sys-reads : (c : Name) (us : List Name) (ks : List (Name × NamedMembers)) (t : Text) → validName c ≡ true
+    → every validName us ≡ true
+    → nonEmpty us ≡ true → every okSys ks ≡ true → nonEmpty ks ≡ true
     → add-sys (32 ∷ (c ++ (bytes " use "
     ++ (commas us ++ (bytes "; " ++ (semicolons (map sysPiece ks) ++ (bytes " end\n" ++ t))))))) ≡ some (SYS c us ks, 10 ∷ t)
 unfolding add-sys semicolons give

@@ -21,8 +21,8 @@ unfolding nameWord
 no-keyword k w a n = fails _ (λ e. clash (subst (λ (x : Text). among x keywords ≡ true) (same-out k w e) a)
     (not-out _ (and-r _ _ n)))
 
-pub ahead-no : (k : Token) (t : Text) (j : Token) (u : Text) → nextToken t ≡ token j u → isToken k j ≡ false → ahead k t
-    ≡ some (false, t)
+pub ahead-no : (k : Token) (t : Text) (j : Token) (u : Text) → nextToken t ≡ token j u → isToken k j ≡ false
+    → ahead k t ≡ some (false, t)
 unfolding ahead aheadOf
 ahead-no k t j u e f = ap (aheadOf k t) e ∙ ap some (if-false _ _ _ f)
 

@@ -17,7 +17,7 @@ use Rattle.text.specs.Bytes.{validImplementation, validName}
 use Rattle.text.specs.Handed.{Named}
 use Rattle.text.specs.Language.{Name, NamedMembers}
 use Rattle.text.specs.SameByNames.{accepted}
-use Rattle.text.specs.Session.{session}
+use Rattle.text.specs.Session.{State, session}
 use Rattle.text.specs.Tables.{Tables, modNumbered, nameAt, noNames, number, numberedMembers, numbers, specNumbered, sysNumbered}
 use Rattle.text.specs.Written.{asCommands, byName, facilityNames, membersOf, modOf, specOf, sysOf, systemsFrom, systemsInOrder}
 use Rattle.text.specs.Written.{written}
@@ -25,6 +25,7 @@ use Rattle.text_theorems.specs.Listed.{every-of, lists-nonEmpty}
 use Rattle.text_theorems.specs.Mentions.{cs-lists, li-lists, lk-lists, lm-lists, lp-lists, lq-lists, lu-lists, lv-lists}
 use Rattle.text_theorems.specs.Mentions.{ms-lists, valid-some, ys-lists}
 use Rattle.text_theorems.specs.ModStep.{ModLists, mod-after, mod-yes, modCommand, withModules}
+use Rattle.text_theorems.specs.NamedGood.{NamedGood}
 use Rattle.text_theorems.specs.NewNumbers.{T-fits, reachedTables, renumbering}
 use Rattle.text_theorems.specs.NewPlaces.{new}
 use Rattle.text_theorems.specs.Numbered.{nMod, nSpec, nSys}
@@ -43,7 +44,19 @@ use Rattle.theorems.specs.Good.{Good}
 use Rattle.theorems.specs.MapLaws.{isSome-out}
 use contract.Running.{tables}
 
-module _ (b : Book) (t : Tables) (g : Good b) (nm : Named (record { book = b; tables = t })) where
+module _ (st : State) (ok : NamedGood st) where
+  abbrev b : Book
+  b = st .book
+
+  abbrev t : Tables
+  t = st .tables
+
+  abbrev g : Good b
+  g = ok .good
+
+  abbrev nm : Named st
+  nm = ok .named
+
   abbrev S : Specs
   S = b .specs
 
@@ -54,10 +67,10 @@ module _ (b : Book) (t : Tables) (g : Good b) (nm : Named (record { book = b; ta
   Y = b .systems
 
   abbrev reached : Tables
-  reached = reachedTables b t g nm
+  reached = reachedTables st ok
 
   abbrev re : Renumbering S M
-  re = renumbering b t g nm
+  re = renumbering st ok
 
   abbrev oldC : ℕ → ℕ
   oldC = re .oldC
@@ -97,13 +110,13 @@ module _ (b : Book) (t : Tables) (g : Good b) (nm : Named (record { book = b; ta
     facs = lp c;
     vers = lv c;
     reqs = lq c;
-    facs-all = lp-lists b t g nm c;
-    vers-all = lv-lists b t g nm c;
-    reqs-all = lq-lists b t g nm c;
+    facs-all = lp-lists st ok c;
+    vers-all = lv-lists st ok c;
+    reqs-all = lq-lists st ok c;
   }
 
   abbrev modLists : (c : ℕ) → ModLists M c
-  modLists c = record { vers = li c; impl = im c; vers-all = li-lists b t g nm c; impl-is = λ v i e. or-at _ i e }
+  modLists c = record { vers = li c; impl = im c; vers-all = li-lists st ok c; impl-is = λ v i e. or-at _ i e }
 
   abbrev sysLists : (s : ℕ) → SysLists Y s
   sysLists s = record {
@@ -111,9 +124,9 @@ module _ (b : Book) (t : Tables) (g : Good b) (nm : Named (record { book = b; ta
     vers = lk s;
     mems = lm s;
     held = mv s;
-    uses-all = lu-lists b t g nm s;
-    vers-all = lk-lists b t g nm s;
-    mems-all = lm-lists b t g nm s;
+    uses-all = lu-lists st ok s;
+    vers-all = lk-lists st ok s;
+    mems-all = lm-lists st ok s;
     held-is = λ v c w e. or-at _ w e;
   }
 
@@ -122,13 +135,13 @@ module _ (b : Book) (t : Tables) (g : Good b) (nm : Named (record { book = b; ta
   spec-writable : (c : ℕ) → specified S c ≡ true → Writable (specOf b t c)
   unfolding specOf facilityNames okVersion
   spec-writable c e = aSpec (nm .component c e)
-      (every-of validName (nameAt (t .facs)) (lp c) (λ f k. nm .provided c f (sym (lp-lists b t g nm c .each f) ∙ k)))
-      (every-of okVersion _ (lv c) (λ v k. and-in _ _ (nm .version c v (sym (lv-lists b t g nm c .each v) ∙ k))
-      (every-of validName (nameAt (t .facs)) (lq c v) (λ f j. nm .required c v f (sym (lq-lists b t g nm c v .each f) ∙ j)))))
-      (nonEmpty-map _ (lv c) (lists-nonEmpty (lv c) _ (lv-lists b t g nm c) _ (g .b1 .std-in c e)))
-      (one-mark (nameAt (t .vers)) _ (standard S c) (lv c) (lv-lists b t g nm c .once) (lv-lists b t g nm c .each (standard S c)
+      (every-of validName (nameAt (t .facs)) (lp c) (λ f k. nm .provided c f (sym (lp-lists st ok c .each f) ∙ k)))
+      (every-of okVersion _ (lv c) (λ v k. and-in _ _ (nm .version c v (sym (lv-lists st ok c .each v) ∙ k))
+      (every-of validName (nameAt (t .facs)) (lq c v) (λ f j. nm .required c v f (sym (lq-lists st ok c v .each f) ∙ j)))))
+      (nonEmpty-map _ (lv c) (lists-nonEmpty (lv c) _ (lv-lists st ok c) _ (g .b1 .std-in c e)))
+      (one-mark (nameAt (t .vers)) _ (standard S c) (lv c) (lv-lists st ok c .once) (lv-lists st ok c .each (standard S c)
       ∙ g .b1 .std-in c e)
-      (λ n k z. nm .vers-once n (standard S c) (valid-some _ (nm .version c n (sym (lv-lists b t g nm c .each n) ∙ k)))
+      (λ n k z. nm .vers-once n (standard S c) (valid-some _ (nm .version c n (sym (lv-lists st ok c .each n) ∙ k)))
       (same-out _ _ z)))
 
   abbrev specsIn : List ℕ → Book
@@ -178,13 +191,12 @@ module _ (b : Book) (t : Tables) (g : Good b) (nm : Named (record { book = b; ta
 
   mod-writable : (c : ℕ) → isModule M c ≡ true → Writable (modOf b t c)
   unfolding modOf okMod
-  mod-writable c e = aMod (nm .component c (g .b2 .mod-spec c e))
-      (every-of okMod _ (li c) (λ v k.
-      let j = sym (li-lists b t g nm c .each v) ∙ k in let q = isSome-out _ j in
+  mod-writable c e = aMod (nm .component c (g .b2 .mod-spec c e)) (every-of okMod _ (li c) (λ v k.
+      let j = sym (li-lists st ok c .each v) ∙ k in let q = isSome-out _ j in
       and-in _ _ (nm .version c v (sym (g .b2 .mod-covers c v e) ∙ j))
       (ap (λ (n : ℕ). validImplementation (nameAt (t .impls) n)) (or-at _ (q .0) (q .1))
       ∙ nm .implemented c v (q .0) (q .1))))
-      (nonEmpty-map _ (li c) (lists-nonEmpty (li c) _ (li-lists b t g nm c) (standard S c) (g .b2 .mod-covers c (standard S c) e
+      (nonEmpty-map _ (li c) (lists-nonEmpty (li c) _ (li-lists st ok c) (standard S c) (g .b2 .mod-covers c (standard S c) e
       ∙ g .b1 .std-in c (g .b2 .mod-spec c e))))
 
   numberedMod : Name × Name → ℕ × ℕ
@@ -211,7 +223,7 @@ module _ (b : Book) (t : Tables) (g : Good b) (nm : Named (record { book = b; ta
 
   in-member : (s v c : ℕ) → elem c (lm s v) ≡ true → (w : ℕ) × (member Y s v c ≡ some w)
   unfolding isMember
-  in-member s v c k = isSome-out (member Y s v c) (sym (lm-lists b t g nm s v .each c) ∙ k)
+  in-member s v c k = isSome-out (member Y s v c) (sym (lm-lists st ok s v .each c) ∙ k)
 
   a-member : (s v : ℕ) → composed Y s v ≡ true → (c : ℕ) × (isMember Y s v c ≡ true)
   unfolding B5 B5at
@@ -227,19 +239,18 @@ module _ (b : Book) (t : Tables) (g : Good b) (nm : Named (record { book = b; ta
 
   sys-writable : (s : ℕ) → isSystem Y s ≡ true → Writable (sysOf b t s)
   unfolding sysOf okSys okMember membersOf has
-  sys-writable s e = aSys (nm .component s (g .b2 .sys-spec s e))
-      (every-of validName (nameAt (t .comps)) (lu s)
-      (λ c k. nm .component c (g .b2 .use-spec s c (sym (lu-lists b t g nm s .each c) ∙ k))))
-      (let q = a-usable s e in nonEmpty-map _ (lu s) (lists-nonEmpty (lu s) _ (lu-lists b t g nm s) (q .0) (q .1)))
+  sys-writable s e = aSys (nm .component s (g .b2 .sys-spec s e)) (every-of validName (nameAt (t .comps)) (lu s)
+      (λ c k. nm .component c (g .b2 .use-spec s c (sym (lu-lists st ok s .each c) ∙ k))))
+      (let q = a-usable s e in nonEmpty-map _ (lu s) (lists-nonEmpty (lu s) _ (lu-lists st ok s) (q .0) (q .1)))
       (every-of okSys _ (lk s) (λ v k.
-      let j = sym (lk-lists b t g nm s .each v) ∙ k in let a = a-member s v j in
+      let j = sym (lk-lists st ok s .each v) ∙ k in let a = a-member s v j in
       and-in _ _ (nm .version s v (sym (g .b2 .sys-covers s v e) ∙ j)) (and-in _ _
-      (nonEmpty-map _ (lm s v) (lists-nonEmpty (lm s v) _ (lm-lists b t g nm s v) (a .0) (a .1)))
+      (nonEmpty-map _ (lm s v) (lists-nonEmpty (lm s v) _ (lm-lists st ok s v) (a .0) (a .1)))
       (every-of okMember _ (lm s v) (λ c w. let q = in-member s v c w in
       let u = mem-usable S Y (g .systemLimits) (g .b5) s v c (q .0) (q .1) in
       and-in _ _ (nm .component c (g .b2 .use-spec s c (u .0)))
       (ap (λ (n : ℕ). validName (nameAt (t .vers) n)) (or-at _ (q .0) (q .1)) ∙ nm .version c (q .0) (u .1)))))))
-      (nonEmpty-map _ (lk s) (lists-nonEmpty (lk s) _ (lk-lists b t g nm s) (standard S s) (g .b2 .sys-covers s (standard S s) e
+      (nonEmpty-map _ (lk s) (lists-nonEmpty (lk s) _ (lk-lists st ok s) (standard S s) (g .b2 .sys-covers s (standard S s) e
       ∙ g .b1 .std-in s (g .b2 .sys-spec s e))))
 
   numberedMember : Name × Option Name → ℕ × Option ℕ
@@ -263,7 +274,7 @@ module _ (b : Book) (t : Tables) (g : Good b) (nm : Named (record { book = b; ta
       λ i. ADD-SYS (number (reached .comps) (nameAt (t .comps) s)) (e₁ i) ((e₂ ∙ e₃) i)
 
   abbrev CanGo : List ℕ → ℕ → Type 0
-  CanGo = Can b g (byName (t .comps) components (isSystem Y)) (ys-lists b t g nm) re
+  CanGo = Can b g (byName (t .comps) components (isSystem Y)) (ys-lists st ok) re
 
   sys-step : (l : List ℕ) (s : ℕ) → CanGo l s → Step reached newC systemsIn (sysOf b t) l s
   unfolding sysOf
@@ -312,7 +323,7 @@ module _ (b : Book) (t : Tables) (g : Good b) (nm : Named (record { book = b; ta
   unfolding withSpecs withModules
   specs-done =
       let e = only-all (pushed newC cs []) specs′
-      (λ m k. back-in (specified S) (λ n z. z) cs (λ n z. cs-lists b t g nm .each n ∙ z) m (sym (specified′ b re m)
+      (λ m k. back-in (specified S) (λ n z. z) cs (λ n z. cs-lists st ok .each n ∙ z) m (sym (specified′ b re m)
       ∙ (unfold specified in k))) in
       λ i. record { specs = e i; modules = sym (only-none modules′) i; systems = λ c. none }
 
@@ -320,7 +331,7 @@ module _ (b : Book) (t : Tables) (g : Good b) (nm : Named (record { book = b; ta
   unfolding withModules withSystems
   modules-done =
       let e = only-all (pushed newC ms []) modules′
-      (λ m k. back-in (isModule M) (λ n z. g .b2 .mod-spec n z) ms (λ n z. ms-lists b t g nm .each n ∙ z) m
+      (λ m k. back-in (isModule M) (λ n z. g .b2 .mod-spec n z) ms (λ n z. ms-lists st ok .each n ∙ z) m
       (sym (isModule′ b re m) ∙ (unfold isModule in k))) in
       λ i. record { specs = specs′; modules = e i; systems = sym (only-none systems′) i }
 
@@ -328,7 +339,7 @@ module _ (b : Book) (t : Tables) (g : Good b) (nm : Named (record { book = b; ta
   unfolding withSystems
   systems-done =
       let e = only-all (pushed newC ss []) systems′ (λ m k. back-in (isSystem Y) (λ n z. g .b2 .sys-spec n z) ss
-      (λ n z. systems-all b g (byName (t .comps) components (isSystem Y)) (ys-lists b t g nm) re n z) m
+      (λ n z. systems-all b g (byName (t .comps) components (isSystem Y)) (ys-lists st ok) re n z) m
       (sym (isSystem′ b re m) ∙ (unfold isSystem in k))) in
       λ i. record { specs = specs′; modules = modules′; systems = e i }
 
@@ -336,19 +347,19 @@ module _ (b : Book) (t : Tables) (g : Good b) (nm : Named (record { book = b; ta
   specs-accepted = subst (λ (x : Book). Accepts reached x (map (specOf b t) cs) (modulesIn [])) start
       (subst (Accepts reached (specsIn []) (map (specOf b t) cs)) specs-done
       (phase reached newC specsIn (specOf b t) _ spec-step
-      (list-in-turn (re .ofC) (specified S) (λ n e. e) cs [] (cs-lists b t g nm .once)
-      (λ n e. (sym (cs-lists b t g nm .each n) ∙ e, (unfold elem in refl))))))
+      (list-in-turn (re .ofC) (specified S) (λ n e. e) cs [] (cs-lists st ok .once)
+      (λ n e. (sym (cs-lists st ok .each n) ∙ e, (unfold elem in refl))))))
 
   modules-accepted : Accepts reached (modulesIn []) (map (modOf b t) ms) (systemsIn [])
   modules-accepted = subst (Accepts reached (modulesIn []) (map (modOf b t) ms)) modules-done
       (phase reached newC modulesIn (modOf b t) _ mod-step
-      (list-in-turn (re .ofC) (isModule M) (λ n e. g .b2 .mod-spec n e) ms [] (ms-lists b t g nm .once)
-      (λ n e. (sym (ms-lists b t g nm .each n) ∙ e, (unfold elem in refl)))))
+      (list-in-turn (re .ofC) (isModule M) (λ n e. g .b2 .mod-spec n e) ms [] (ms-lists st ok .once)
+      (λ n e. (sym (ms-lists st ok .each n) ∙ e, (unfold elem in refl)))))
 
   systems-accepted : Accepts reached (systemsIn []) (map (sysOf b t) ss) rebuilt
   systems-accepted = subst (Accepts reached (systemsIn []) (map (sysOf b t) ss)) systems-done
       (phase reached newC systemsIn (sysOf b t) CanGo sys-step
-      (systems-in-turn b g (byName (t .comps) components (isSystem Y)) (ys-lists b t g nm) re))
+      (systems-in-turn b g (byName (t .comps) components (isSystem Y)) (ys-lists st ok) re))
 
   all-accepted : Accepts reached empty (asCommands b t) rebuilt
   unfolding asCommands systemsInOrder
@@ -358,5 +369,5 @@ module _ (b : Book) (t : Tables) (g : Good b) (nm : Named (record { book = b; ta
   pub text-read : session (written b t) ≡ (accepted 1 (length (asCommands b t)), record { book = rebuilt; tables = reached })
   unfolding session written reachedTables
   text-read =
-      let r = accepts-runs reached (T-fits b t g nm) all-accepted noNames refl in
+      let r = accepts-runs reached (T-fits st ok) all-accepted noNames refl in
       runs-text r _ 1 (runs-length r)

@@ -82,10 +82,10 @@ pub record Like (S S₁ : Specs) (M : Modules) (Y Y₁ : Systems) (re : Renumber
   pub sys : (s : ℕ) → isSystem Y₁ s ≡ true → isSystem Y (re .oldC s) ≡ true
   pub uses : (s c : ℕ) → isSystem Y₁ s ≡ true → usable Y₁ s c ≡ usable Y (re .oldC s) (re .oldC c)
   pub comps : (s v : ℕ) → isSystem Y₁ s ≡ true → composed Y₁ s v ≡ composed Y (re .oldC s) (re .oldV v)
-  pub members : (s v c : ℕ) → isSystem Y₁ s ≡ true → member Y₁ s v c
-      ≡ optionMap (re .newV) (member Y (re .oldC s) (re .oldV v) (re .oldC c))
-  pub kind : (s c : ℕ) → isSystem Y₁ s ≡ true → usable Y (re .oldC s) (re .oldC c) ≡ true → isSystem Y₁ c
-      ≡ isSystem Y (re .oldC c)
+  pub members : (s v c : ℕ) → isSystem Y₁ s ≡ true
+      → member Y₁ s v c ≡ optionMap (re .newV) (member Y (re .oldC s) (re .oldV v) (re .oldC c))
+  pub kind : (s c : ℕ) → isSystem Y₁ s ≡ true → usable Y (re .oldC s) (re .oldC c) ≡ true
+      → isSystem Y₁ c ≡ isSystem Y (re .oldC c)
 
 module _ (b : Book) (g : Good b) (S₁ : Specs) (Y₁ : Systems) (re : Renumbering (b .specs) (b .modules))
     (K : Like (b .specs) S₁ (b .modules) (b .systems) Y₁ re) where
@@ -145,8 +145,8 @@ module _ (b : Book) (g : Good b) (S₁ : Specs) (Y₁ : Systems) (re : Renumberi
       → has (member Y₁ s v c) t₁ ≡ has (member Y (oldC s) (oldV v) (oldC c)) t
   has-member s v c y t₁ t h = ap (λ (o : Option ℕ). has o t₁) (K .members s v c y) ∙ has-map newV _ t₁ ∙ has-cong _ h
 
-  needs-like : (n c w f : ℕ) → isSystem Y₁ c ≡ isSystem Y (oldC c) → needsTo n S₁ Y₁ c w f
-      ≡ needsTo n S Y (oldC c) (oldV w) (oldF f)
+  needs-like : (n c w f : ℕ) → isSystem Y₁ c ≡ isSystem Y (oldC c)
+      → needsTo n S₁ Y₁ c w f ≡ needsTo n S Y (oldC c) (oldV w) (oldF f)
   unfolding needsTo
   needs-like zero c w f k = K .req c w f
   needs-like (suc n) c w f k =
@@ -231,8 +231,8 @@ module _ (b : Book) (g : Good b) (S₁ : Specs) (Y₁ : Systems) (re : Renumberi
       ∙ allC (λ c. isMember Y (oldC s) (oldV v) c ⇒ t c) (λ c e. is-spec (oldC s) (oldV v) c (imp-no _ _ e .0))
 
   -- a facility that both provide
-  apart-like : (c d : ℕ) → disjoint facilities (provides S₁ c) (provides S₁ d)
-      ≡ disjoint facilities (provides S (oldC c)) (provides S (oldC d))
+  apart-like : (c d : ℕ)
+      → disjoint facilities (provides S₁ c) (provides S₁ d) ≡ disjoint facilities (provides S (oldC c)) (provides S (oldC d))
   unfolding disjoint
   apart-like c d =
       all-cong facilities (λ f. ap₂ (λ (x y : Bool). x ⇒ ~ y) (K .prov c f) (K .prov d f))

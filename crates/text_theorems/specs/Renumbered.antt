@@ -110,8 +110,8 @@ module _ (b : Book) (re : Renumbering (b .specs) (b .modules)) where
   unfolding provides newSpecs renumberSpec
   provides′ c f = has-map _ (S (oldC c)) _
 
-  version-by : (o : Option Spec) (v : ℕ) → isSome (andThen (optionMap (renumberSpec oldV oldF newV) o) (λ x. x .req v))
-      ≡ isSome (andThen o (λ x. x .req (oldV v)))
+  version-by : (o : Option Spec) (v : ℕ)
+      → isSome (andThen (optionMap (renumberSpec oldV oldF newV) o) (λ x. x .req v)) ≡ isSome (andThen o (λ x. x .req (oldV v)))
   unfolding andThen optionMap renumberSpec
   version-by none v = refl
   version-by (some x) v = optionMap-some _ _
@@ -134,8 +134,8 @@ module _ (b : Book) (re : Renumbering (b .specs) (b .modules)) where
   unfolding isModule newModules
   isModule′ c = optionMap-some _ _
 
-  implementation-by : (o : Option (Map ℕ)) (v : ℕ) → andThen (optionMap (renumberModule oldV newI) o) (λ i. i v)
-      ≡ optionMap newI (andThen o (λ i. i (oldV v)))
+  implementation-by : (o : Option (Map ℕ)) (v : ℕ)
+      → andThen (optionMap (renumberModule oldV newI) o) (λ i. i v) ≡ optionMap newI (andThen o (λ i. i (oldV v)))
   unfolding andThen optionMap renumberModule
   implementation-by none v = refl
   implementation-by (some x) v = refl

@@ -43,8 +43,7 @@ pub names-same : (t t′ : Table) → Once t → Once t′ → (L : ℕ) (test t
     → ((n : ℕ) → test′ n ≡ true → (n < L) × (nonEmpty (nameAt t′ n) ≡ true))
     → ((w : Name) → at t w test ≡ at t′ w test′) → map (nameAt t) (byName t L test) ≡ map (nameAt t′) (byName t′ L test′)
 unfolding at
-names-same t t′ o o′ L test test′ u u′ h = unique _ _
-    (byName-rises t o L test (λ n e. u n e .0) (λ n e. u n e .1))
+names-same t t′ o o′ L test test′ u u′ h = unique _ _ (byName-rises t o L test (λ n e. u n e .0) (λ n e. u n e .1))
     (byName-rises t′ o′ L test′ (λ n e. u′ n e .0) (λ n e. u′ n e .1))
     (λ w. byName-among t o L test (λ n e. u n e .0) (λ n e. u n e .1) w ∙ h w
     ∙ sym (byName-among t′ o′ L test′ (λ n e. u′ n e .0) (λ n e. u′ n e .1) w))
@@ -71,8 +70,8 @@ module _ (s : State) (p : NamedGood s) where
   isV : (c v : ℕ) → hasVersion (s .book .specs) c v ≡ true → place (s .tables .vers) (nameAt (s .tables .vers) v) ≡ some v
   isV c v e = place-of _ (p .named .vers-once) v (useV c v e .1)
 
-  isI : (c v i : ℕ) → implementation (s .book .modules) c v ≡ some i → place (s .tables .impls) (nameAt (s .tables .impls) i)
-      ≡ some i
+  isI : (c v i : ℕ) → implementation (s .book .modules) c v ≡ some i
+      → place (s .tables .impls) (nameAt (s .tables .impls) i) ≡ some i
   isI c v i e = place-of _ (p .named .impls-once) i (impl-some _ (p .named .implemented c v i e))
 
   pub sys-version : (c v : ℕ) → isSystem (s .book .systems) c ≡ true → composed (s .book .systems) c v ≡ true
@@ -125,26 +124,26 @@ module _ (s s′ : State) (A : Alike s s′) where
         sym (at-here _ _ c P (isC s p c (k .there))) ∙ sym (h (N c)) ∙ A .says (x (N c))
         ∙ ap (λ (w : Name). holds s′ (x w)) (k .named) ∙ h′ (N′ c′) ∙ at-here _ _ c′ P′ (isC s′ p′ c′ (k .there′))
 
-    pub provides-same : (w : Name) → at (s .tables .facs) w (provides (s .book .specs) c)
-        ≡ at (s′ .tables .facs) w (provides (s′ .book .specs) c′)
+    pub provides-same : (w : Name)
+        → at (s .tables .facs) w (provides (s .book .specs) c) ≡ at (s′ .tables .facs) w (provides (s′ .book .specs) c′)
     unfolding holds
     provides-same w = read (λ c. Provides c w) (λ c. at (s .tables .facs) w (provides (s .book .specs) c))
         (λ c. at (s′ .tables .facs) w (provides (s′ .book .specs) c)) (λ w. refl) (λ w. refl)
 
-    pub version-same : (w : Name) → at (s .tables .vers) w (hasVersion (s .book .specs) c)
-        ≡ at (s′ .tables .vers) w (hasVersion (s′ .book .specs) c′)
+    pub version-same : (w : Name)
+        → at (s .tables .vers) w (hasVersion (s .book .specs) c) ≡ at (s′ .tables .vers) w (hasVersion (s′ .book .specs) c′)
     unfolding holds
     version-same w = read (λ c. Version c w) (λ c. at (s .tables .vers) w (hasVersion (s .book .specs) c))
         (λ c. at (s′ .tables .vers) w (hasVersion (s′ .book .specs) c)) (λ w. refl) (λ w. refl)
 
-    pub usable-same : (w : Name) → at (s .tables .comps) w (usable (s .book .systems) c)
-        ≡ at (s′ .tables .comps) w (usable (s′ .book .systems) c′)
+    pub usable-same : (w : Name)
+        → at (s .tables .comps) w (usable (s .book .systems) c) ≡ at (s′ .tables .comps) w (usable (s′ .book .systems) c′)
     unfolding holds
     usable-same w = read (λ c. Usable c w) (λ c. at (s .tables .comps) w (usable (s .book .systems) c))
         (λ c. at (s′ .tables .comps) w (usable (s′ .book .systems) c)) (λ w. refl) (λ w. refl)
 
-    pub composed-same : (w : Name) → at (s .tables .vers) w (composed (s .book .systems) c)
-        ≡ at (s′ .tables .vers) w (composed (s′ .book .systems) c′)
+    pub composed-same : (w : Name)
+        → at (s .tables .vers) w (composed (s .book .systems) c) ≡ at (s′ .tables .vers) w (composed (s′ .book .systems) c′)
     unfolding holds
     composed-same w = read (λ c. Composed c w) (λ c. at (s .tables .vers) w (composed (s .book .systems) c))
         (λ c. at (s′ .tables .vers) w (composed (s′ .book .systems) c)) (λ w. refl) (λ w. refl)
@@ -163,12 +162,11 @@ module _ (s s′ : State) (A : Alike s s′) where
     -- a version with the same name in both
     module _ (v v′ : ℕ) (h : hasVersion (s .book .specs) c v ≡ true) (h′ : hasVersion (s′ .book .specs) c′ v′ ≡ true) (e : W v
         ≡ W′ v′) where
-      pub requires-same : (w : Name) → at (s .tables .facs) w (requires (s .book .specs) c v)
-          ≡ at (s′ .tables .facs) w (requires (s′ .book .specs) c′ v′)
+      pub requires-same : (w : Name)
+          → at (s .tables .facs) w (requires (s .book .specs) c v) ≡ at (s′ .tables .facs) w (requires (s′ .book .specs) c′ v′)
       unfolding holds
       requires-same w =
-          sym (at-here _ _ v _ (isV s p c v h))
-          ∙ read (λ c. Requires c (W v) w)
+          sym (at-here _ _ v _ (isV s p c v h)) ∙ read (λ c. Requires c (W v) w)
           (λ c. at (s .tables .vers) (W v) (λ v. at (s .tables .facs) w (requires (s .book .specs) c v)))
           (λ c. at (s′ .tables .vers) (W v) (λ v. at (s′ .tables .facs) w (requires (s′ .book .specs) c v))) (λ w. refl)
           (λ w. refl)
@@ -224,14 +222,14 @@ module _ (s s′ : State) (A : Alike s s′) where
 
   -- ---- the order of systems
 
-  pub elem-fwd : (out out′ : List ℕ) → map N out ≡ map N′ out′ → (x x′ : ℕ) → SameName x x′ → elem x out ≡ true → elem x′ out′
-      ≡ true
+  pub elem-fwd : (out out′ : List ℕ) → map N out ≡ map N′ out′ → (x x′ : ℕ) → SameName x x′ → elem x out ≡ true
+      → elem x′ out′ ≡ true
   elem-fwd out out′ e x x′ k a =
       let r = among-names-out N′ out′ (N x) (ap (among (N x)) (sym e) ∙ among-names-in N out x a) in
       ap (λ (z : ℕ). elem z out′) (p′ .named .comps-once x′ (r .0) (useC s′ p′ x′ (k .there′) .1) (sym (k .named) ∙ r .2)) ∙ r .1
 
-  pub ready-fwd : (out out′ : List ℕ) → map N out ≡ map N′ out′ → (x x′ : ℕ) → SameName x x′ → ready (s .book .systems) out x
-      ≡ true
+  pub ready-fwd : (out out′ : List ℕ) → map N out ≡ map N′ out′ → (x x′ : ℕ) → SameName x x′
+      → ready (s .book .systems) out x ≡ true
       → ready (s′ .book .systems) out′ x′ ≡ true
   unfolding ready
   ready-fwd out out′ e x x′ k a = all-in _ _ (λ c′ l. imp-in _ _ (λ u′. imp-in _ _ (λ y′.

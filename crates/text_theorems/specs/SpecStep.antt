@@ -131,8 +131,8 @@ module _ (b : Book) (g : Good b) (re : Renumbering (b .specs) (b .modules)) wher
         ∙ new-each (re .ofV) lv kv usedV (newV (standard S c)) ∙ ap (hasVersion S c) std-back ∙ g .b1 .std-in c there)
         none-left)))))))
 
-    req-new : (x : Spec) → S c ≡ some x → (v : ℕ) → optionMap setOf (beside (map (λ v. (newV v, map newF (lq v))) lv) v)
-        ≡ optionMap (λ q f. q (oldF f)) (x .req (oldV v))
+    req-new : (x : Spec) → S c ≡ some x → (v : ℕ)
+        → optionMap setOf (beside (map (λ v. (newV v, map newF (lq v))) lv) v) ≡ optionMap (λ q f. q (oldF f)) (x .req (oldV v))
     unfolding optionMap setOf has
     req-new x e v =
         elim (bool? (hasVersion S c (oldV v))) [

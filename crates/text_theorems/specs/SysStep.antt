@@ -204,8 +204,8 @@ module _ (b : Book) (g : Good b) (re : Renumbering (b .specs) (b .modules)) wher
     member-some v e = nonEmpty-map _ (lm v) (has-member v e)
 
     -- a composition
-    comp-at : (v : ℕ) (m : Map ℕ) → composition Y s v ≡ some m → stored S′ (sysMembers s ls v)
-        ≡ (λ c. optionMap newV (m (oldC c)))
+    comp-at : (v : ℕ) (m : Map ℕ) → composition Y s v ≡ some m
+        → stored S′ (sysMembers s ls v) ≡ (λ c. optionMap newV (m (oldC c)))
     unfolding stored sysMembers optionMap orElse isMember
     comp-at v m e = fun-ext (λ c.
         let at : member Y s v (oldC c) ≡ m (oldC c) = unfold member in andThen-in _ _ m e in

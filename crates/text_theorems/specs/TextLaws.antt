@@ -82,8 +82,9 @@ pub every-none : {A : Type 0} (test : A → Bool) → every test [] ≡ true
 unfolding every
 every-none test = refl
 
-pub every-joined : {A : Type 0} (test : Name → Bool) (sel : A → List Name) (xs : List A) → every (λ x. every test (sel x)) xs
-    ≡ true → every test (joined (map sel xs)) ≡ true
+pub every-joined : {A : Type 0} (test : Name → Bool) (sel : A → List Name) (xs : List A)
+    → every (λ x. every test (sel x)) xs ≡ true
+    → every test (joined (map sel xs)) ≡ true
 unfolding every joined
 every-joined test sel [] e = refl
 every-joined test sel (x ∷ xs) e = every-append test (sel x) _ (and-l _ _ e) (every-joined test sel xs (and-r _ _ e))
@@ -112,8 +113,8 @@ unfolding has optionMap
 has-map h none t = refl
 has-map h (some x) t = refl
 
-pub if-there-map : {A B : Type 0} (h : A → B) (o : Option A) (t : B → Bool) → if-there (optionMap h o) t
-    ≡ if-there o (λ x. t (h x))
+pub if-there-map : {A B : Type 0} (h : A → B) (o : Option A) (t : B → Bool)
+    → if-there (optionMap h o) t ≡ if-there o (λ x. t (h x))
 unfolding if-there optionMap
 if-there-map h none t = refl
 if-there-map h (some x) t = refl
@@ -129,8 +130,8 @@ or-at o n e = ap (λ (x : Option ℕ). orElse x 0) e
 
 -- ---- tests
 
-pub if-cong : {A : Type 0} (t t′ : Bool) {x x′ y y′ : A} → t ≡ t′ → (t ≡ true → x ≡ x′) → y ≡ y′ → (if t then x else y)
-    ≡ (if t′ then x′ else y′)
+pub if-cong : {A : Type 0} (t t′ : Bool) {x x′ y y′ : A} → t ≡ t′ → (t ≡ true → x ≡ x′) → y ≡ y′
+    → (if t then x else y) ≡ (if t′ then x′ else y′)
 unfolding if_then_else_
 if-cong true true e f g = f refl
 if-cong true false e f g = clash (sym e) refl

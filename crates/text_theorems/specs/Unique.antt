@@ -153,8 +153,9 @@ sorted-rises t o (x ∷ xs) k h =
     (sorted-rises t o xs (and-r _ _ k) (λ n e. h n (or-r _ _ e)))
 
 -- the names of the numbers that pass a test
-module _ (t : Table) (o : Once t) (L : ℕ) (test : ℕ → Bool) (small : (n : ℕ) → test n ≡ true → n < L) (full : (n : ℕ) → test n
-    ≡ true → nonEmpty (nameAt t n) ≡ true) where
+module _ (t : Table) (o : Once t) (L : ℕ) (test : ℕ → Bool) (small : (n : ℕ) → test n ≡ true → n < L) (full : (n : ℕ)
+    → test n ≡ true
+    → nonEmpty (nameAt t n) ≡ true) where
   k : Lists (byName t L test) test
   k = byName-lists t L test small
 

@@ -13,32 +13,34 @@ use Rattle.model.specs.Maps.{Map, change, optionMap, put}
 use Rattle.sets.specs.Sets.{Set}
 use Rattle.sets.specs.TestLaws.{and-l, and-r, clash, same?}
 use Rattle.sets.specs.Tests.{_&_}
+use Rattle.text_theorems.specs.FourTables.{Kind, aComponent, aFacility, aVersion, anImplementation}
 use Rattle.theorems.specs.Accepted.{beside-pair}
 use Rattle.theorems.specs.ListLaws.{beside-second, every-elem}
 use Rattle.theorems.specs.MapLaws.{no-some, optionMap-out, put-other, put-same}
 
--- the numbers of a specification are in inV and inF
-pub record SpecNumbers (inV inF : Set) (x : Spec) : Type 0 where
-  pub prov : (f : ℕ) → x .prov f ≡ true → inF f ≡ true
-  pub req : (v : ℕ) (q : Set) → x .req v ≡ some q → (inV v ≡ true) × ((f : ℕ) → q f ≡ true → inF f ≡ true)
+-- the numbers of a specification are in the sets of their kinds
+pub record SpecNumbers (sets : Kind → Set) (x : Spec) : Type 0 where
+  pub prov : (f : ℕ) → x .prov f ≡ true → sets aFacility f ≡ true
+  pub req : (v : ℕ) (q : Set) → x .req v ≡ some q → (sets aVersion v ≡ true) × ((f : ℕ) → q f ≡ true → sets aFacility f ≡ true)
 
--- the components, versions, facilities and implementations in the book are in inC, inV, inF and inI
-pub record BookNumbers (inC inV inF inI : Set) (b : Book) : Type 0 where
-  pub specs : (c : ℕ) (x : Spec) → b .specs c ≡ some x → (inC c ≡ true) × SpecNumbers inV inF x
-  pub modules : (c : ℕ) (m : Map ℕ) → b .modules c ≡ some m → (v i : ℕ) → m v ≡ some i → inI i ≡ true
+-- the numbers in a book are in the sets of their kinds
+pub record BookNumbers (sets : Kind → Set) (b : Book) : Type 0 where
+  pub specs : (c : ℕ) (x : Spec) → b .specs c ≡ some x → (sets aComponent c ≡ true) × SpecNumbers sets x
+  pub modules : (c : ℕ) (m : Map ℕ) → b .modules c ≡ some m → (v i : ℕ) → m v ≡ some i → sets anImplementation i ≡ true
 
--- what a command puts into a book is in inC, inV, inF and inI
-unfoldable pub puts : (inC inV inF inI : Set) → Command → Bool
-puts inC inV inF inI (ADD-SPEC c ps vs s) = inC c & every inF ps & every (λ x. inV (x .0) & every inF (x .1)) vs
-puts inC inV inF inI (ADD-MOD c is) = every inI (seconds is)
-puts inC inV inF inI (ADD-SYS c us ks) = true
-puts inC inV inF inI (ADD-MODVAR c v rs i) = inV v & every inF rs & inI i
-puts inC inV inF inI (ADD-SYSVAR c v ms) = inV v
-puts inC inV inF inI (DEL-SPEC c) = true
-puts inC inV inF inI (DEL-MOD c) = true
-puts inC inV inF inI (DEL-SYS c) = true
-puts inC inV inF inI (DEL-MODVAR c v) = true
-puts inC inV inF inI (DEL-SYSVAR c v) = true
+-- and what a command puts into a book is
+unfoldable pub puts : (Kind → Set) → Command → Bool
+puts sets (ADD-SPEC c ps vs s) =
+    sets aComponent c & every (sets aFacility) ps & every (λ x. sets aVersion (x .0) & every (sets aFacility) (x .1)) vs
+puts sets (ADD-MOD c is) = every (sets anImplementation) (seconds is)
+puts sets (ADD-SYS c us ks) = true
+puts sets (ADD-MODVAR c v rs i) = sets aVersion v & every (sets aFacility) rs & sets anImplementation i
+puts sets (ADD-SYSVAR c v ms) = sets aVersion v
+puts sets (DEL-SPEC c) = true
+puts sets (DEL-MOD c) = true
+puts sets (DEL-SYS c) = true
+puts sets (DEL-MODVAR c v) = true
+puts sets (DEL-SYSVAR c v) = true
 
 -- ---- maps that change in one place
 
@@ -58,15 +60,27 @@ change-all P m h n g f = put-all P m h n (optionMap g (m n))
 
 -- ---- a book under the ten commands
 
-module _ (inC inV inF inI : Set) where
+module _ (sets : Kind → Set) where
+  abbrev inC : Set
+  inC = sets aComponent
+
+  abbrev inV : Set
+  inV = sets aVersion
+
+  abbrev inF : Set
+  inF = sets aFacility
+
+  abbrev inI : Set
+  inI = sets anImplementation
+
   abbrev SpecAt : ℕ → Spec → Type 0
-  SpecAt c x = (inC c ≡ true) × SpecNumbers inV inF x
+  SpecAt c x = (inC c ≡ true) × SpecNumbers sets x
 
   abbrev ModuleAt : ℕ → Map ℕ → Type 0
   ModuleAt c m = (v i : ℕ) → m v ≡ some i → inI i ≡ true
 
   with-version : (v : ℕ) (q : Option Set) → ((r : Set) → q ≡ some r → (inV v ≡ true) × ((f : ℕ) → r f ≡ true → inF f ≡ true))
-      → (x : Spec) → SpecNumbers inV inF x → SpecNumbers inV inF (withVersion v q x)
+      → (x : Spec) → SpecNumbers sets x → SpecNumbers sets (withVersion v q x)
   unfolding withVersion
   with-version v q h x s = record {
     prov = s .prov;
@@ -79,7 +93,7 @@ module _ (inC inV inF inI : Set) where
 
   new-spec : (ps : List ℕ) (vs : List (ℕ × List ℕ)) (s : ℕ) → every inF ps ≡ true
       → every (λ x. inV (x .0) & every inF (x .1)) vs ≡ true
-      → SpecNumbers inV inF (record { prov = setOf ps; req = λ v. optionMap setOf (beside vs v); std = s })
+      → SpecNumbers sets (record { prov = setOf ps; req = λ v. optionMap setOf (beside vs v); std = s })
   unfolding setOf
   new-spec ps vs s hp hv = record {
     prov = λ f e. every-elem inF ps hp f e;
@@ -89,8 +103,8 @@ module _ (inC inV inF inI : Set) where
   }
 
   -- an accepted command: what the book holds afterwards was there or is put in
-  pub after-numbers : (b : Book) (k : Command) → BookNumbers inC inV inF inI b → puts inC inV inF inI k ≡ true
-      → BookNumbers inC inV inF inI (after b k)
+  pub after-numbers : (b : Book) (k : Command) → BookNumbers sets b → puts sets k ≡ true
+      → BookNumbers sets (after b k)
   unfolding after puts setOf noFacility
   after-numbers b (ADD-SPEC c ps vs s) n h = record {
     specs = put-all SpecAt (b .specs) (n .specs) c _ (λ x e.
@@ -118,8 +132,7 @@ module _ (inC inV inF inI : Set) where
       a .0,
       with-version v _ (λ r e. (
         and-l _ _ h,
-        λ f k. every-elem inF rs (and-l _ _ (and-r _ _ h)) f (ap (λ (z : Set). z f) (Option·some-injective _ _ e)
-            ∙ k),
+        λ f k. every-elem inF rs (and-l _ _ (and-r _ _ h)) f (ap (λ (z : Set). z f) (Option·some-injective _ _ e) ∙ k),
       )) x (a .1),
     ));
     modules = change-all ModuleAt (b .modules) (n .modules) c _ (with-implementation v (some i) (λ j e.
@@ -128,8 +141,7 @@ module _ (inC inV inF inI : Set) where
   after-numbers b (ADD-SYSVAR c v ms) n h = record {
     specs = change-all SpecAt (b .specs) (n .specs) c _ (λ x a. (
       a .0,
-      with-version v _ (λ r e.
-          (h, λ f k. clash (ap (λ (z : Set). z f) (Option·some-injective _ _ e) ∙ k) refl)) x (a .1),
+      with-version v _ (λ r e. (h, λ f k. clash (ap (λ (z : Set). z f) (Option·some-injective _ _ e) ∙ k) refl)) x (a .1),
     ));
     modules = n .modules;
   }
@@ -143,17 +155,15 @@ module _ (inC inV inF inI : Set) where
   }
 
 -- larger sets
-pub more-numbers : (inC inV inF inI inC′ inV′ inF′ inI′ : Set) → ((n : ℕ) → inC n ≡ true → inC′ n ≡ true)
-    → ((n : ℕ) → inV n ≡ true → inV′ n ≡ true)
-    → ((n : ℕ) → inF n ≡ true → inF′ n ≡ true) → ((n : ℕ) → inI n ≡ true → inI′ n ≡ true) → (b : Book)
-    → BookNumbers inC inV inF inI b → BookNumbers inC′ inV′ inF′ inI′ b
-more-numbers inC inV inF inI inC′ inV′ inF′ inI′ c v f i b n = record {
-  specs = λ k x e. (let a = n .specs k x e in (
-    c k (a .0),
+pub more-numbers : (sets sets′ : Kind → Set) → ((k : Kind) (n : ℕ) → sets k n ≡ true → sets′ k n ≡ true) → (b : Book)
+    → BookNumbers sets b → BookNumbers sets′ b
+more-numbers sets sets′ h b n = record {
+  specs = λ c x e. (
+    h aComponent c (n .specs c x e .0),
     record {
-      prov = λ g h. f g (a .1 .prov g h);
-      req = λ w q h. (let z = a .1 .req w q h in (v w (z .0), λ g j. f g (z .1 g j)));
+      prov = λ f p. h aFacility f (n .specs c x e .1 .prov f p);
+      req = λ v q r. (let z = n .specs c x e .1 .req v q r in (h aVersion v (z .0), λ f p. h aFacility f (z .1 f p)));
     },
-  ));
-  modules = λ k m e w j h. i j (n .modules k m e w j h);
+  );
+  modules = λ c m e v i p. h anImplementation i (n .modules c m e v i p);
 }

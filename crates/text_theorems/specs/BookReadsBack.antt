@@ -18,8 +18,9 @@ use Rattle.text.specs.Session.{State, session}
 use Rattle.text.specs.Tables.{Table, Tables, place}
 use Rattle.text.specs.Written.{asCommands}
 use Rattle.text_theorems.specs.BookLaws.{implementation-module, provides-specified}
+use Rattle.text_theorems.specs.FourTables.{aComponent, aFacility, aVersion, anImplementation}
 use Rattle.text_theorems.specs.NamedGood.{NamedGood, passes→named}
-use Rattle.text_theorems.specs.NewNumbers.{atC, atF, atI, atV, reachedTables, renumbering}
+use Rattle.text_theorems.specs.NewNumbers.{at-kind, reachedTables, renumbering}
 use Rattle.text_theorems.specs.NewPlaces.{eq-through}
 use Rattle.text_theorems.specs.Rebuilt.{rebuilt, text-read}
 use Rattle.text_theorems.specs.Renamed.{Renumbering, implementationOf, providedBy, requiredBy, versionOf}
@@ -83,37 +84,42 @@ module _ (st : State) (ok : NamedGood st) where
 
   same-facts : Same (record { book = rebuilt st ok; tables = reachedTables st ok }) st
   unfolding holds at
-  same-facts (IsSpecified c) = atC st ok c _ _ (specified′ b re) (λ n e. e)
-  same-facts (IsModule c) = atC st ok c _ _ (isModule′ b re) (λ n e. g .b2 .mod-spec n e)
-  same-facts (IsSystem c) = atC st ok c _ _ (isSystem′ b re) (λ n e. g .b2 .sys-spec n e)
-  same-facts (Provides c f) = atC st ok c _ _ (λ m. atF st ok f _ _ (provides′ b re m) (λ n e. providedBy _ e))
+  same-facts (IsSpecified c) = at-kind st ok aComponent c _ _ (specified′ b re) (λ n e. e)
+  same-facts (IsModule c) = at-kind st ok aComponent c _ _ (isModule′ b re) (λ n e. g .b2 .mod-spec n e)
+  same-facts (IsSystem c) = at-kind st ok aComponent c _ _ (isSystem′ b re) (λ n e. g .b2 .sys-spec n e)
+  same-facts (Provides c f) = at-kind st ok aComponent c _ _
+      (λ m. at-kind st ok aFacility f _ _ (provides′ b re m) (λ n e. providedBy _ e))
       (λ n e. let q = at-out _ f _ e in provides-specified S n (q .0) (q .1))
-  same-facts (Version c v) = atC st ok c _ _ (λ m. atV st ok v _ _ (hasVersion′ b re m) (λ n e. versionOf _ e))
+  same-facts (Version c v) = at-kind st ok aComponent c _ _
+      (λ m. at-kind st ok aVersion v _ _ (hasVersion′ b re m) (λ n e. versionOf _ e))
       (λ n e. let q = at-out _ v _ e in version-specified S n (q .0) (q .1))
-  same-facts (Standard c v) = atC st ok c _ _ (λ m. atV st ok v _ _
+  same-facts (Standard c v) = at-kind st ok aComponent c _ _ (λ m. at-kind st ok aVersion v _ _
       (λ k. ap (λ (x : Bool). x & k == standard (newSpecs b re) m) (specified′ b re m)
       ∙ and-cong _ (λ e. ap (λ (x : ℕ). k == x) (standard′ m e) ∙ eq-through (re .ofV) k _ (versionOf _ (g .b1 .std-in _ e))))
       (λ n e. versionOf (re .oldC m) (ap (hasVersion S (re .oldC m)) (==-out _ _ (and-r _ _ e)) ∙ g .b1 .std-in _ (and-l _ _ e))))
       (λ n e. let q = at-out _ v _ e in and-l _ _ (q .1))
-  same-facts (Usable c d) = atC st ok c _ _ (λ m. atC st ok d _ _ (usable′ b re m) (λ n e. g .b2 .use-spec _ n e))
+  same-facts (Usable c d) = at-kind st ok aComponent c _ _
+      (λ m. at-kind st ok aComponent d _ _ (usable′ b re m) (λ n e. g .b2 .use-spec _ n e))
       (λ n e. let q = at-out _ d _ e in g .b2 .sys-spec n (usable-system Y n (q .0) (q .1)))
-  same-facts (Composed c v) = atC st ok c _ _
-      (λ m. atV st ok v _ _ (composed′ b re m) (λ n e. versionOf _ (sym (g .b2 .sys-covers _ n (sys-of _ n e)) ∙ e)))
+  same-facts (Composed c v) = at-kind st ok aComponent c _ _
+      (λ m. at-kind st ok aVersion v _ _ (composed′ b re m) (λ n e. versionOf _ (sym (g .b2 .sys-covers _ n (sys-of _ n e)) ∙ e)))
       (λ n e. let q = at-out _ v _ e in g .b2 .sys-spec n (sys-of n (q .0) (q .1)))
-  same-facts (Requires c v f) = atC st ok c _ _
-      (λ m. atV st ok v _ _ (λ k. atF st ok f _ _ (requires′ b re m k) (λ n e. requiredBy _ _ e))
+  same-facts (Requires c v f) = at-kind st ok aComponent c _ _
+      (λ m. at-kind st ok aVersion v _ _ (λ k. at-kind st ok aFacility f _ _ (requires′ b re m k) (λ n e. requiredBy _ _ e))
       (λ n e. let q = at-out _ f _ e in versionOf _ (requires-version S _ n (q .0) (q .1))))
       (λ n e. let q = at-out _ v _ e in let r = at-out _ f _ (q .1) in
       version-specified S n (q .0) (requires-version S n (q .0) (r .0) (r .1)))
-  same-facts (Implemented c v i) = atC st ok c _ _ (λ m. atV st ok v _ _
-      (λ k. atI st ok i _ _ (λ j. ap (λ (o : Option ℕ). has o (λ z. j == z)) (implementation′ b re m k) ∙ has-map _ _ _
+  same-facts (Implemented c v i) = at-kind st ok aComponent c _ _ (λ m. at-kind st ok aVersion v _ _
+      (λ k. at-kind st ok anImplementation i _ _ (λ j. ap (λ (o : Option ℕ). has o (λ z. j == z)) (implementation′ b re m k)
+      ∙ has-map _ _ _
       ∙ has-cong _ (λ z e. eq-through (re .ofI) j z (implementationOf _ _ e)))
       (λ n e. let q = has-out _ _ e in implementationOf _ _ (q .1 ∙ ap some (sym (==-out _ _ (q .2))))))
       (λ n e. let q = at-out _ i _ e in let r = has-out _ _ (q .1) in versionOf _ (impl-version _ n (r .0) (r .1))))
       (λ n e. let q = at-out _ v _ e in let p = at-out _ i _ (q .1) in let r = has-out _ _ (p .1) in
       g .b2 .mod-spec n (implementation-module M n (q .0) (r .0) (r .1)))
-  same-facts (Member c v d w) = atC st ok c _ _ (λ m. atV st ok v _ _ (λ k. atC st ok d _ _
-      (λ j. atV st ok w _ _ (λ x. ap (λ (o : Option ℕ). has o (λ z. x == z)) (member′ b re m k j) ∙ has-map _ _ _
+  same-facts (Member c v d w) = at-kind st ok aComponent c _ _
+      (λ m. at-kind st ok aVersion v _ _ (λ k. at-kind st ok aComponent d _ _
+      (λ j. at-kind st ok aVersion w _ _ (λ x. ap (λ (o : Option ℕ). has o (λ z. x == z)) (member′ b re m k j) ∙ has-map _ _ _
       ∙ has-cong _ (λ z e. eq-through (re .ofV) x z (versionOf _ (mem-usable S Y (g .systemLimits) (g .b5) _ _ _ z e .1))))
       (λ n e. let q = has-out _ _ e in
       versionOf _ (mem-usable S Y (g .systemLimits) (g .b5) _ _ _ n (q .1 ∙ ap some (sym (==-out _ _ (q .2)))) .1)))

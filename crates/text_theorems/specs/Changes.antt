@@ -17,6 +17,7 @@ use Rattle.text_theorems.specs.TextLaws.{by-test}
 use Rattle.text_theorems.specs.ValidNames.{validSaid}
 use Rattle.text_theorems.specs.ValidTables.{AllValid, Puts, mod-puts, mod-valid, modvar-puts, modvar-valid, spec-puts}
 use Rattle.text_theorems.specs.ValidTables.{spec-valid, sys-puts, sys-valid, sysvar-puts, sysvar-valid}
+use contract.Running.{tables}
 use Rattle.model.specs.Queries as queries
 
 pub data Changes (s : State) : State → Type 0 where

@@ -143,7 +143,8 @@ module _ (s s′ : State) (A : Alike s s′) where
       let cov : (v : ℕ) → T v ≡ hasVersion S c v = λ v. p .good .b2 .mod-covers c v m in
       let cov′ : (v : ℕ) → T′ v ≡ hasVersion S′ c′ v = λ v. p′ .good .b2 .mod-covers c′ v m′ in
       let e₂ = map-along {A = Name × Name} W W′ (λ v. (W v, nameAt (s .tables .impls) (orElse (implementation M c v) 0)))
-      (λ v. (W′ v, nameAt (s′ .tables .impls) (orElse (implementation M′ c′ v) 0))) (byName (s .tables .vers) versions T) (byName (s′ .tables .vers) versions T′)
+      (λ v. (W′ v, nameAt (s′ .tables .impls) (orElse (implementation M′ c′ v) 0))) (byName (s .tables .vers) versions T)
+      (byName (s′ .tables .vers) versions T′)
       (names-same _ _ (p .named .vers-once) (p′ .named .vers-once) versions T T′ (λ v e. useV s p c v (sym (cov v) ∙ e))
       (λ v e. useV s′ p′ c′ v (sym (cov′ v) ∙ e)) (λ w. at-cong _ w T (hasVersion S c) cov ∙ version-same s s′ A c c′ k w
       ∙ sym (at-cong _ w T′ (hasVersion S′ c′) cov′))) (λ v v′ a a′ w.

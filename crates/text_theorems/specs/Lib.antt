@@ -7,6 +7,7 @@ pub mod ReadsBack
 pub mod Renamed
 pub mod Places
 pub mod NewPlaces
+pub mod FourTables
 pub mod Numbered
 pub mod Runs
 pub mod Listed

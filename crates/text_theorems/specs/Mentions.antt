@@ -17,6 +17,8 @@ use Rattle.text.specs.Session.{State}
 use Rattle.text.specs.Tables.{Table, Tables, enter, entered, given, joined, memberNames, memberVersions, modNames, nameAt}
 use Rattle.text.specs.Tables.{specNames, sysNames}
 use Rattle.text.specs.Written.{asCommands, byName, facilityNames, membersOf, modOf, specOf, sysOf, systemsInOrder}
+use Rattle.text_theorems.specs.FourTables.{Kind, aComponent, aFacility, aVersion, anImplementation, by-kind, entered-table}
+use Rattle.text_theorems.specs.FourTables.{table}
 use Rattle.text_theorems.specs.Listed.{Lists, byName-lists, every-of}
 use Rattle.text_theorems.specs.NamedGood.{NamedGood}
 use Rattle.text_theorems.specs.Numbered.{mentioned}
@@ -35,29 +37,14 @@ unfolding enter
 enter-append t [] ys = refl
 enter-append t (x ∷ xs) ys = enter-append _ xs ys
 
-pub entered-comps : (t : Tables) (ks : List Said)
-    → allEntered t ks .comps ≡ enter (t .comps) (joined (map (λ k. mentioned k .comps) ks))
-unfolding allEntered joined entered enter
-entered-comps t [] = refl
-entered-comps t (k ∷ ks) = entered-comps (entered t (mentioned k)) ks ∙ sym (enter-append (t .comps) (mentioned k .comps) _)
-
-pub entered-vers : (t : Tables) (ks : List Said)
-    → allEntered t ks .vers ≡ enter (t .vers) (joined (map (λ k. mentioned k .vers) ks))
-unfolding allEntered joined entered enter
-entered-vers t [] = refl
-entered-vers t (k ∷ ks) = entered-vers (entered t (mentioned k)) ks ∙ sym (enter-append (t .vers) (mentioned k .vers) _)
-
-pub entered-facs : (t : Tables) (ks : List Said)
-    → allEntered t ks .facs ≡ enter (t .facs) (joined (map (λ k. mentioned k .facs) ks))
-unfolding allEntered joined entered enter
-entered-facs t [] = refl
-entered-facs t (k ∷ ks) = entered-facs (entered t (mentioned k)) ks ∙ sym (enter-append (t .facs) (mentioned k .facs) _)
-
-pub entered-impls : (t : Tables) (ks : List Said)
-    → allEntered t ks .impls ≡ enter (t .impls) (joined (map (λ k. mentioned k .impls) ks))
-unfolding allEntered joined entered enter
-entered-impls t [] = refl
-entered-impls t (k ∷ ks) = entered-impls (entered t (mentioned k)) ks ∙ sym (enter-append (t .impls) (mentioned k .impls) _)
+pub entered-all : (k : Kind) (t : Tables) (ks : List Said)
+    → table k (allEntered t ks) ≡ enter (table k t) (joined (map (λ c. table k (mentioned c)) ks))
+unfolding allEntered joined enter
+entered-all k t [] = refl
+entered-all k t (c ∷ cs) =
+    entered-all k (entered t (mentioned c)) cs
+    ∙ ap (λ (z : Table). enter z (joined (map (λ c. table k (mentioned c)) cs))) (entered-table k t (mentioned c))
+    ∙ sym (enter-append (table k t) (table k (mentioned c)) _)
 
 -- ---- lists of lists
 
@@ -180,50 +167,57 @@ module _ (st : State) (ok : NamedGood st) where
   -- ---- what a command mentions passes a test that each name in the book passes
 
   -- each name in the book passes the test of its table
-  pub record EachName (tc tv tf ti : Name → Bool) : Type 0 where
-    pub component : (c : ℕ) → specified S c ≡ true → tc (nameAt (t .comps) c) ≡ true
-    pub version : (c v : ℕ) → hasVersion S c v ≡ true → tv (nameAt (t .vers) v) ≡ true
-    pub provided : (c f : ℕ) → provides S c f ≡ true → tf (nameAt (t .facs) f) ≡ true
-    pub required : (c v f : ℕ) → requires S c v f ≡ true → tf (nameAt (t .facs) f) ≡ true
-    pub implemented : (c v i : ℕ) → implementation M c v ≡ some i → ti (nameAt (t .impls) i) ≡ true
+  pub record EachName (test : Kind → Name → Bool) : Type 0 where
+    pub component : (c : ℕ) → specified S c ≡ true → test aComponent (nameAt (t .comps) c) ≡ true
+    pub version : (c v : ℕ) → hasVersion S c v ≡ true → test aVersion (nameAt (t .vers) v) ≡ true
+    pub provided : (c f : ℕ) → provides S c f ≡ true → test aFacility (nameAt (t .facs) f) ≡ true
+    pub required : (c v f : ℕ) → requires S c v f ≡ true → test aFacility (nameAt (t .facs) f) ≡ true
+    pub implemented : (c v i : ℕ) → implementation M c v ≡ some i → test anImplementation (nameAt (t .impls) i) ≡ true
 
-  module _ (tc tv tf ti : Name → Bool) (h : EachName tc tv tf ti) where
-    -- each name that a command mentions does
-    pub record AllPass (k : Said) : Type 0 where
-      pub comps : every tc (mentioned k .comps) ≡ true
-      pub vers : every tv (mentioned k .vers) ≡ true
-      pub facs : every tf (mentioned k .facs) ≡ true
-      pub impls : every ti (mentioned k .impls) ≡ true
+  module _ (test : Kind → Name → Bool) (h : EachName test) where
+    abbrev tc : Name → Bool
+    tc = test aComponent
+
+    abbrev tv : Name → Bool
+    tv = test aVersion
+
+    abbrev tf : Name → Bool
+    tf = test aFacility
+
+    abbrev ti : Name → Bool
+    ti = test anImplementation
+
+    -- each name that a command mentions passes the test of its table
+    abbrev AllPass : Said → Type 0
+    AllPass c = (k : Kind) → every (test k) (table k (mentioned c)) ≡ true
 
     spec-passes : (c : ℕ) → specified S c ≡ true → AllPass (specOf b t c)
     unfolding mentioned specOf specNames facilityNames
-    spec-passes c e = record {
-      comps = every-cons tc _ _ (h .component c e) (every-none tc);
-      vers = every-firsts tv (nameAt (t .vers)) (λ v. facilityNames t (requires S c v))
-          (byName (t .vers) versions (hasVersion S c)) (λ v k. h .version c v (sym (lv-lists c .each v) ∙ k));
-      facs = every-append tf (facilityNames t (provides S c)) _
-          (every-of tf (nameAt (t .facs)) (byName (t .facs) facilities (provides S c))
-          (λ f k. h .provided c f (sym (lp-lists c .each f) ∙ k)))
-          (every-lists tf (λ x. x .1) (λ v. (nameAt (t .vers) v, facilityNames t (requires S c v)))
-          (byName (t .vers) versions (hasVersion S c))
-          (λ v j. every-of tf (nameAt (t .facs)) (byName (t .facs) facilities (requires S c v))
-          (λ f k. h .required c v f (sym (lq-lists c v .each f) ∙ k))));
-      impls = every-none ti;
-    }
+    spec-passes c e = by-kind _
+        (every-cons tc _ _ (h .component c e) (every-none tc))
+        (every-firsts tv (nameAt (t .vers)) (λ v. facilityNames t (requires S c v))
+        (byName (t .vers) versions (hasVersion S c)) (λ v k. h .version c v (sym (lv-lists c .each v) ∙ k)))
+        (every-append tf (facilityNames t (provides S c)) _
+        (every-of tf (nameAt (t .facs)) (byName (t .facs) facilities (provides S c))
+        (λ f k. h .provided c f (sym (lp-lists c .each f) ∙ k)))
+        (every-lists tf (λ x. x .1) (λ v. (nameAt (t .vers) v, facilityNames t (requires S c v)))
+        (byName (t .vers) versions (hasVersion S c))
+        (λ v j. every-of tf (nameAt (t .facs)) (byName (t .facs) facilities (requires S c v))
+        (λ f k. h .required c v f (sym (lq-lists c v .each f) ∙ k)))))
+        (every-none ti)
 
     mod-passes : (c : ℕ) → isModule M c ≡ true → AllPass (modOf b t c)
     unfolding mentioned modOf modNames orElse
     mod-passes c e =
         let l = byName (t .vers) versions (λ v. isSome (implementation M c v)) in
         let at : ℕ → Name = λ v. nameAt (t .impls) (orElse (implementation M c v) 0) in
-        record {
-          comps = every-cons tc _ _ (h .component c (g .b2 .mod-spec c e)) (every-none tc);
-          vers = every-firsts tv (nameAt (t .vers)) at l
-              (λ v k. h .version c v (sym (g .b2 .mod-covers c v e) ∙ sym (li-lists c .each v) ∙ k));
-          facs = every-none tf;
-          impls = every-seconds ti (nameAt (t .vers)) at l (λ v k. let q = isSome-out _ (sym (li-lists c .each v) ∙ k) in
-              ap (λ (o : Option ℕ). ti (nameAt (t .impls) (orElse o 0))) (q .1) ∙ h .implemented c v (q .0) (q .1));
-        }
+        by-kind _
+        (every-cons tc _ _ (h .component c (g .b2 .mod-spec c e)) (every-none tc))
+        (every-firsts tv (nameAt (t .vers)) at l
+        (λ v k. h .version c v (sym (g .b2 .mod-covers c v e) ∙ sym (li-lists c .each v) ∙ k)))
+        (every-none tf)
+        (every-seconds ti (nameAt (t .vers)) at l (λ v k. let q = isSome-out _ (sym (li-lists c .each v) ∙ k) in
+        ap (λ (o : Option ℕ). ti (nameAt (t .impls) (orElse o 0))) (q .1) ∙ h .implemented c v (q .0) (q .1)))
 
     member-names : (s v : ℕ)
         → memberNames (membersOf b t s v) ≡ map (nameAt (t .comps)) (byName (t .comps) components (isMember Y s v))
@@ -244,32 +238,28 @@ module _ (st : State) (ok : NamedGood st) where
     sys-passes s e =
         let at : ℕ → Name × NamedMembers = λ v. (nameAt (t .vers) v, membersOf b t s v) in
         let l = byName (t .vers) versions (composed Y s) in
-        record {
-          comps = every-cons tc _ _ (h .component s (g .b2 .sys-spec s e))
-              (every-append tc (map (nameAt (t .comps)) (byName (t .comps) components (usable Y s))) _
-              (every-of tc (nameAt (t .comps)) (byName (t .comps) components (usable Y s))
-              (λ c k. h .component c (g .b2 .use-spec s c (sym (lu-lists s .each c) ∙ k))))
-              (every-lists tc (λ x. memberNames (x .1)) at l (λ v j. ap (every tc) (member-names s v)
-              ∙ every-of tc (nameAt (t .comps)) (byName (t .comps) components (isMember Y s v))
-              (λ c k. let q = at-member s v c k in
-              h .component c (g .b2 .use-spec s c (mem-usable S Y (g .systemLimits) (g .b5) s v c (q .0) (q .1) .0))))));
-          vers = every-lists tv (λ x. x .0 ∷ memberVersions (x .1)) at l
-              (λ v j. every-cons tv _ _ (h .version s v (sym (g .b2 .sys-covers s v e) ∙ sym (lk-lists s .each v) ∙ j))
-              (ap (every tv) (member-versions s v)
-              ∙ every-of tv (λ c. nameAt (t .vers) (orElse (member Y s v c) 0)) (byName (t .comps) components (isMember Y s v))
-              (λ c k. let q = at-member s v c k in ap (λ (o : Option ℕ). tv (nameAt (t .vers) (orElse o 0))) (q .1)
-              ∙ h .version c (q .0) (mem-usable S Y (g .systemLimits) (g .b5) s v c (q .0) (q .1) .1))));
-          facs = every-none tf;
-          impls = every-none ti;
-        }
+        by-kind _
+        (every-cons tc _ _ (h .component s (g .b2 .sys-spec s e))
+        (every-append tc (map (nameAt (t .comps)) (byName (t .comps) components (usable Y s))) _
+        (every-of tc (nameAt (t .comps)) (byName (t .comps) components (usable Y s))
+        (λ c k. h .component c (g .b2 .use-spec s c (sym (lu-lists s .each c) ∙ k))))
+        (every-lists tc (λ x. memberNames (x .1)) at l (λ v j. ap (every tc) (member-names s v)
+        ∙ every-of tc (nameAt (t .comps)) (byName (t .comps) components (isMember Y s v))
+        (λ c k. let q = at-member s v c k in
+        h .component c (g .b2 .use-spec s c (mem-usable S Y (g .systemLimits) (g .b5) s v c (q .0) (q .1) .0)))))))
+        (every-lists tv (λ x. x .0 ∷ memberVersions (x .1)) at l
+        (λ v j. every-cons tv _ _ (h .version s v (sym (g .b2 .sys-covers s v e) ∙ sym (lk-lists s .each v) ∙ j))
+        (ap (every tv) (member-versions s v)
+        ∙ every-of tv (λ c. nameAt (t .vers) (orElse (member Y s v c) 0)) (byName (t .comps) components (isMember Y s v))
+        (λ c k. let q = at-member s v c k in ap (λ (o : Option ℕ). tv (nameAt (t .vers) (orElse o 0))) (q .1)
+        ∙ h .version c (q .0) (mem-usable S Y (g .systemLimits) (g .b5) s v c (q .0) (q .1) .1)))))
+        (every-none tf) (every-none ti)
 
-    pub all-pass : (sel : Tables → List Name) (test : Name → Bool)
-        → ((k : Said) → AllPass k → every test (sel (mentioned k)) ≡ true)
-        → every test (joined (map (λ k. sel (mentioned k)) (asCommands b t))) ≡ true
+    pub all-pass : (k : Kind) → every (test k) (joined (map (λ c. table k (mentioned c)) (asCommands b t))) ≡ true
     unfolding asCommands systemsInOrder
-    all-pass sel test f = every-joined test (λ k. sel (mentioned k)) _
+    all-pass k = every-joined (test k) (λ c. table k (mentioned c)) _
         (every-append _ (map (specOf b t) (byName (t .comps) components (specified S))) _
-        (every-of _ (specOf b t) _ (λ c e. f _ (spec-passes c (sym (cs-lists .each c) ∙ e))))
+        (every-of _ (specOf b t) _ (λ c e. spec-passes c (sym (cs-lists .each c) ∙ e) k))
         (every-append _ (map (modOf b t) (byName (t .comps) components (isModule M))) _
-        (every-of _ (modOf b t) _ (λ c e. f _ (mod-passes c (sym (ms-lists .each c) ∙ e))))
-        (every-of _ (sysOf b t) _ (λ s e. f _ (sys-passes s (systems-are b g _ ys-lists components [] s e))))))
+        (every-of _ (modOf b t) _ (λ c e. mod-passes c (sym (ms-lists .each c) ∙ e) k))
+        (every-of _ (sysOf b t) _ (λ s e. sys-passes s (systems-are b g _ ys-lists components [] s e) k))))

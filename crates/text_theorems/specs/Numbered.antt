@@ -3,7 +3,7 @@ use mathlib.Core.Bool.{Bool, true}
 use mathlib.Core.List.{List, [], _++_, _∷_, append-assoc, append-nil, map}
 use mathlib.Core.Logic.{inl, inr}
 use mathlib.Core.Option.{Option, none, some}
-use mathlib.Core.Path.{_∙_, _≡_, ap, refl, sym}
+use mathlib.Core.Path.{_∙_, _≡_, ap, refl, subst, sym}
 use Prim.Native.Nat.{ℕ}
 use native.Mathlib.Omega.{arith}
 use lib.ListN.{length}
@@ -17,6 +17,7 @@ use Rattle.text.specs.Language.{CHOICE, DELMOD, DELMODVAR, DELSPEC, DELSYS, DEL
 use Rattle.text.specs.Language.{PARTS, SPEC, STANDARD, SUPPLIES, SYS, SYSVAR, Said, UNDEFINED, UNUSED, WHEREUSED, standards}
 use Rattle.text.specs.Tables.{Table, Tables, enter, entered, given, joined, memberNames, memberVersions, modNames, modNumbered}
 use Rattle.text.specs.Tables.{noNames, number, numberedMembers, numbers, specNames, specNumbered, sysNames, sysNumbered}
+use Rattle.text_theorems.specs.FourTables.{Kind, aComponent, aFacility, aVersion, anImplementation, entered-table, table}
 use Rattle.text_theorems.specs.Places.{enter-has, enter-longer, number-longer}
 use Rattle.text_theorems.specs.ReadsBack.{flag}
 use Rattle.text_theorems.specs.TextLaws.{every-among, every-l, every-r, map-every, same-out, same-refl}
@@ -58,11 +59,8 @@ pub record Grown (t T : Table) : Type 0 where
   pub more : Table
   pub is : T ≡ t ++ more
 
-pub record Longer (t T : Tables) : Type 0 where
-  pub comps : Grown (t .comps) (T .comps)
-  pub vers : Grown (t .vers) (T .vers)
-  pub facs : Grown (t .facs) (T .facs)
-  pub impls : Grown (t .impls) (T .impls)
+abbrev pub Longer : Tables → Tables → Type 0
+Longer t T = (k : Kind) → Grown (table k t) (table k T)
 
 grown-trans : {t u v : Table} → Grown t u → Grown u v → Grown t v
 grown-trans {t} a b = record {
@@ -77,19 +75,13 @@ grown-self : (t : Table) → Grown t t
 grown-self t = record { more = []; is = sym (append-nil t) }
 
 pub longer-self : (t : Tables) → Longer t t
-longer-self t = record { comps = grown-self _; vers = grown-self _; facs = grown-self _; impls = grown-self _ }
+longer-self t k = grown-self (table k t)
 
-pub longer-trans : {t u v : Tables} → Longer t u → Longer u v → Longer t v
-longer-trans a b = record {
-  comps = grown-trans (a .comps) (b .comps);
-  vers = grown-trans (a .vers) (b .vers);
-  facs = grown-trans (a .facs) (b .facs);
-  impls = grown-trans (a .impls) (b .impls);
-}
+pub longer-trans : (t u v : Tables) → Longer t u → Longer u v → Longer t v
+longer-trans t u v a b k = grown-trans (a k) (b k)
 
 pub longer-entered : (t m : Tables) → Longer t (entered t m)
-unfolding entered
-longer-entered t m = record { comps = grown-enter _ _; vers = grown-enter _ _; facs = grown-enter _ _; impls = grown-enter _ _ }
+longer-entered t m k = subst (Grown (table k t)) (sym (entered-table k t m)) (grown-enter (table k t) (table k m))
 
 stays : (t T : Table) → Grown t T → (w : Name) → among w t ≡ true → number t w ≡ number T w
 stays t T l w a = sym (number-longer t (l .more) w a) ∙ ap (λ (z : Table). number z w) (sym (l .is))
@@ -180,8 +172,8 @@ specOne : (t T : Tables) → Longer t T → (x : Name × List Name) → specIn (
     → _≡_ {A = ℕ × List ℕ} (number (t .vers) (x .0), numbers (t .facs) (x .1)) (number (T .vers) (x .0), numbers (T .facs) (x .1))
 unfolding specIn
 specOne t T l x h =
-    let a = stays _ _ (l .vers) (x .0) (and-l _ _ h) in
-    let b = numbers-stay _ _ (l .facs) (x .1) (and-r _ _ h) in
+    let a = stays _ _ (l aVersion) (x .0) (and-l _ _ h) in
+    let b = numbers-stay _ _ (l aFacility) (x .1) (and-r _ _ h) in
     λ i. (a i, b i)
 
 pub same-spec : (t T : Tables) (c : Name) (ps : List Name) (vs : List (Name × List Name)) (d : Name) → Longer t T
@@ -190,20 +182,20 @@ pub same-spec : (t T : Tables) (c : Name) (ps : List Name) (vs : List (Name × L
     → specNumbered t c ps vs d ≡ specNumbered T c ps vs d
 unfolding specNumbered
 same-spec t T c ps vs d l ic iv if′ ad =
-    let e₁ = stays _ _ (l .comps) c (in-head _ c [] ic) in
-    let e₂ = numbers-stay _ _ (l .facs) ps (in-l _ ps _ if′) in
+    let e₁ = stays _ _ (l aComponent) c (in-head _ c [] ic) in
+    let e₂ = numbers-stay _ _ (l aFacility) ps (in-l _ ps _ if′) in
     let e₃ = map-every (specIn (t .vers) (t .facs)) (λ x. (number (t .vers) (x .0), numbers (t .facs) (x .1)))
     (λ x. (number (T .vers) (x .0), numbers (T .facs) (x .1))) vs (spec-in _ _ vs iv (in-r _ ps _ if′))
     (λ x h. specOne t T l x h) in
-    let e₄ = stays _ _ (l .vers) d (in-among _ _ d iv ad) in
+    let e₄ = stays _ _ (l aVersion) d (in-among _ _ d iv ad) in
     λ i. ADD-SPEC (e₁ i) (e₂ i) (e₃ i) (e₄ i)
 
 modOne : (t T : Tables) → Longer t T → (x : Name × Name) → modIn (t .vers) (t .impls) x ≡ true
     → _≡_ {A = ℕ × ℕ} (number (t .vers) (x .0), number (t .impls) (x .1)) (number (T .vers) (x .0), number (T .impls) (x .1))
 unfolding modIn
 modOne t T l x h =
-    let a = stays _ _ (l .vers) (x .0) (and-l _ _ h) in
-    let b = stays _ _ (l .impls) (x .1) (and-r _ _ h) in
+    let a = stays _ _ (l aVersion) (x .0) (and-l _ _ h) in
+    let b = stays _ _ (l anImplementation) (x .1) (and-r _ _ h) in
     λ i. (a i, b i)
 
 pub same-mod : (t T : Tables) (c : Name) (is : List (Name × Name)) → Longer t T → inside (t .comps) (c ∷ []) ≡ true
@@ -211,7 +203,7 @@ pub same-mod : (t T : Tables) (c : Name) (is : List (Name × Name)) → Longer t
     → modNumbered t c is ≡ modNumbered T c is
 unfolding modNumbered
 same-mod t T c is l ic iv ii =
-    let e₁ = stays _ _ (l .comps) c (in-head _ c [] ic) in
+    let e₁ = stays _ _ (l aComponent) c (in-head _ c [] ic) in
     let e₃ = map-every (modIn (t .vers) (t .impls)) (λ x. (number (t .vers) (x .0), number (t .impls) (x .1)))
     (λ x. (number (T .vers) (x .0), number (T .impls) (x .1))) is (mod-in _ _ is iv ii) (λ x h. modOne t T l x h) in
     λ i. ADD-MOD (e₁ i) (e₃ i)
@@ -220,10 +212,10 @@ memberOne : (t T : Tables) → Longer t T → (c : Name) (v : Option Name) → m
     → _≡_ {A = ℕ × Option ℕ} (number (t .comps) c, optionMap (number (t .vers)) v)
     (number (T .comps) c, optionMap (number (T .vers)) v)
 unfolding memberIn if-there optionMap
-memberOne t T l c none h = let a = stays _ _ (l .comps) c (and-l _ _ h) in λ i. (a i, none)
+memberOne t T l c none h = let a = stays _ _ (l aComponent) c (and-l _ _ h) in λ i. (a i, none)
 memberOne t T l c (some v) h =
-    let a = stays _ _ (l .comps) c (and-l _ _ h) in
-    let b = stays _ _ (l .vers) v (and-r _ _ h) in
+    let a = stays _ _ (l aComponent) c (and-l _ _ h) in
+    let b = stays _ _ (l aVersion) v (and-r _ _ h) in
     λ i. (a i, some (b i))
 
 sysOne : (t T : Tables) → Longer t T → (x : Name × NamedMembers) → sysIn (t .comps) (t .vers) x ≡ true
@@ -231,7 +223,7 @@ sysOne : (t T : Tables) → Longer t T → (x : Name × NamedMembers) → sysIn 
     (number (T .vers) (x .0), numberedMembers T (x .1))
 unfolding sysIn numberedMembers
 sysOne t T l x h =
-    let a = stays _ _ (l .vers) (x .0) (and-l _ _ h) in
+    let a = stays _ _ (l aVersion) (x .0) (and-l _ _ h) in
     let b = map-every (memberIn (t .comps) (t .vers)) (λ m. (number (t .comps) (m .0), optionMap (number (t .vers)) (m .1)))
     (λ m. (number (T .comps) (m .0), optionMap (number (T .vers)) (m .1))) (x .1) (and-r _ _ h)
     (λ m k. memberOne t T l (m .0) (m .1) k) in
@@ -243,8 +235,8 @@ pub same-sys : (t T : Tables) (c : Name) (us : List Name) (ks : List (Name × Na
     → sysNumbered t c us ks ≡ sysNumbered T c us ks
 unfolding sysNumbered
 same-sys t T c us ks l ic iv =
-    let e₁ = stays _ _ (l .comps) c (in-head _ c _ ic) in
-    let e₂ = numbers-stay _ _ (l .comps) us (in-l _ us _ (in-r _ (c ∷ []) _ ic)) in
+    let e₁ = stays _ _ (l aComponent) c (in-head _ c _ ic) in
+    let e₂ = numbers-stay _ _ (l aComponent) us (in-l _ us _ (in-r _ (c ∷ []) _ ic)) in
     let e₃ = map-every (sysIn (t .comps) (t .vers)) (λ x. (number (t .vers) (x .0), numberedMembers t (x .1)))
     (λ x. (number (T .vers) (x .0), numberedMembers T (x .1))) ks (sys-in _ _ ks (in-r _ us _ (in-r _ (c ∷ []) _ ic)) iv)
     (λ x h. sysOne t T l x h) in

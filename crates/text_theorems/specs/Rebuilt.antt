@@ -26,7 +26,7 @@ use Rattle.text_theorems.specs.Mentions.{cs-lists, li-lists, lk-lists, l
 use Rattle.text_theorems.specs.Mentions.{ms-lists, valid-some, ys-lists}
 use Rattle.text_theorems.specs.ModStep.{ModLists, mod-after, mod-yes, modCommand, withModules}
 use Rattle.text_theorems.specs.NamedGood.{NamedGood}
-use Rattle.text_theorems.specs.NewNumbers.{T-fits, reachedTables, renumbering}
+use Rattle.text_theorems.specs.NewNumbers.{reached-fits, reachedTables, renumbering}
 use Rattle.text_theorems.specs.NewPlaces.{new}
 use Rattle.text_theorems.specs.Numbered.{nMod, nSpec, nSys}
 use Rattle.text_theorems.specs.Order.{Can, systems-all, systems-in-turn}
@@ -369,5 +369,5 @@ module _ (st : State) (ok : NamedGood st) where
   pub text-read : session (written b t) ≡ (accepted 1 (length (asCommands b t)), record { book = rebuilt; tables = reached })
   unfolding session written reachedTables
   text-read =
-      let r = accepts-runs reached (T-fits st ok) all-accepted noNames refl in
+      let r = accepts-runs reached (reached-fits st ok) all-accepted noNames refl in
       runs-text r _ 1 (runs-length r)

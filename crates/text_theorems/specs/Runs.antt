@@ -3,14 +3,14 @@ use mathlib.Core.Bool.{true}
 use mathlib.Core.List.{List, [], _++_, _∷_, map}
 use mathlib.Core.Path.{_∙_, _≡_, ap, refl, subst}
 use Prim.Native.Nat.{_≤_, suc, zero, zero-le, ℕ}
+use native.Mathlib.Nat.{le-trans}
 use native.Mathlib.Omega.{arith}
 use lib.Dec.{T}
 use lib.ListN.{length, length-append}
 use Rattle.model.specs.Book.{Book}
 use Rattle.model.specs.Commands.{Command, after}
 use Rattle.model.specs.PlainBook.{answer}
-use Rattle.sets.specs.TestLaws.{and-in, and-l, and-r, if-true, ≤?-in, ≤?-out}
-use Rattle.sets.specs.Tests.{_≤?_}
+use Rattle.sets.specs.TestLaws.{if-true}
 use Rattle.text.specs.Bytes.{Text, bytes}
 use Rattle.text.specs.Language.{Said, command, commandOf, names, over}
 use Rattle.text.specs.SameByNames.{accepted}
@@ -19,6 +19,7 @@ use Rattle.text.specs.Session.{told}
 use Rattle.text.specs.Tables.{Table, Tables, entered, fits, joined, modNames, modNumbered, specNames, specNumbered, sysNames}
 use Rattle.text.specs.Tables.{sysNumbered}
 use Rattle.text.specs.Written.{line}
+use Rattle.text_theorems.specs.FourTables.{all-fit, each-fits}
 use Rattle.text_theorems.specs.Numbered.{Grown, Longer, Numbered, longer-entered, longer-self, longer-trans, mentioned, nMod}
 use Rattle.text_theorems.specs.Numbered.{nSpec, nSys, names-in, same-mod, same-spec, same-sys, std-among}
 use Rattle.text_theorems.specs.Reading.{lexing}
@@ -58,16 +59,11 @@ runs-text (step {s} {s₁} {s₂} {k} {ks} w e r) (suc n) i h =
 
 -- ---- one command, with the numbers of the tables that are reached in the end
 
-length-longer : (t T : Table) → Grown t T → (n : ℕ) → (length T ≤? n) ≡ true → (length t ≤? n) ≡ true
-length-longer t T l n h = ≤?-in _ _ (let a = ≤?-out _ _ h in let b = ap length (l .is) ∙ length-append t (l .more) in omega arith)
+length-longer : (t T : Table) → Grown t T → length t ≤ length T
+length-longer t T l = let b = ap length (l .is) ∙ length-append t (l .more) in omega arith
 
 fits-longer : (t T : Tables) → Longer t T → fits T ≡ true → fits t ≡ true
-unfolding fits
-fits-longer t T l h =
-    and-in _ _ (length-longer _ _ (l .comps) _ (and-l _ _ h))
-    (and-in _ _ (length-longer _ _ (l .vers) _ (and-l _ _ (and-r _ _ h)))
-    (and-in _ _ (length-longer _ _ (l .facs) _ (and-l _ _ (and-r _ _ (and-r _ _ h))))
-    (length-longer _ _ (l .impls) _ (and-r _ _ (and-r _ _ (and-r _ _ h))))))
+fits-longer t T l h = all-fit t (λ k. le-trans (length-longer _ _ (l k)) (each-fits T h k))
 
 pub reachedBy : State → Command → Tables → State
 reachedBy s K t = record { book = after (s .book) K; tables = t }
@@ -103,7 +99,7 @@ allEntered t (k ∷ ks) = allEntered (entered t (mentioned k)) ks
 pub all-longer : (t : Tables) (ks : List Said) → Longer t (allEntered t ks)
 unfolding allEntered
 all-longer t [] = longer-self t
-all-longer t (k ∷ ks) = longer-trans (longer-entered t (mentioned k)) (all-longer (entered t (mentioned k)) ks)
+all-longer t (k ∷ ks) = longer-trans _ _ _ (longer-entered t (mentioned k)) (all-longer (entered t (mentioned k)) ks)
 
 -- commands that the book accepts one after the other, with their numbers in T
 pub data Accepts (T : Tables) : Book → List Said → Book → Type 0 where

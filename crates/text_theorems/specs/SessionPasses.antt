@@ -21,8 +21,10 @@ use Rattle.text.specs.Tables.{Table, fits, nameAt, numbers}
 use Rattle.text_theorems.specs.BookNumbers.{after-numbers}
 use Rattle.text_theorems.specs.BookReadsBack.{reads-back}
 use Rattle.text_theorems.specs.Changes.{Changes, adds, carry-changes, stays, tells}
+use Rattle.text_theorems.specs.FourTables.{aComponent, aFacility, aVersion, anImplementation, none-named, valid}
 use Rattle.text_theorems.specs.Numbered.{Longer, longer-entered, longer-self, longer-trans}
 use Rattle.text_theorems.specs.Places.{apart, apart-once}
+use Rattle.text_theorems.specs.TextLaws.{every-none}
 use Rattle.text_theorems.specs.ValidNames.{ValidRead, command-valid}
 use Rattle.text_theorems.specs.ValidTables.{AllApart, AllValid, NumbersHeld, entered-apart, entered-held, entered-valid, held}
 use Rattle.theorems.specs.Good.{Good, good→passes, passes→good, requires-version}
@@ -46,21 +48,21 @@ reached-step s s′ (tells k p e) r = record {
   valid = r .valid;
   once = r .once;
   room = r .room;
-  numbers = after-numbers _ _ _ _ (s .book) k (r .numbers) p;
+  numbers = after-numbers _ (s .book) k (r .numbers) p;
 }
 reached-step s s′ (adds m k v p f e) r = record {
   good = accepted′ (s .book) k (r .good) e;
   valid = entered-valid _ _ (r .valid) v;
   once = entered-apart _ _ (r .once);
   room = f;
-  numbers = after-numbers _ _ _ _ (s .book) k (entered-held _ _ _ (r .numbers)) p;
+  numbers = after-numbers _ (s .book) k (entered-held _ _ _ (r .numbers)) p;
 }
 
 fresh-reached : Reached fresh
 fresh-reached = record {
   good = passes→good empty-passes;
-  valid = unfold every in record { comps = refl; vers = refl; facs = refl; impls = refl };
-  once = unfold apart in record { comps = refl; vers = refl; facs = refl; impls = refl };
+  valid = λ k. ap (every (valid k)) (none-named k) ∙ every-none _;
+  once = λ k. ap apart (none-named k) ∙ (unfold apart in refl);
   room = unfold fits _≤?_ _&_ in refl;
   numbers = record { specs = λ c x e. no-some e; modules = λ c m e. no-some e };
 }
@@ -92,7 +94,7 @@ longer-step s s′ (adds m k v p f e) = longer-entered (s .tables) m
 -- "A place is held until the session ends": what follows only puts names behind those that are there.
 pub places-held : (n i : ℕ) (s : State) (t : Text) → Longer (s .tables) (sessionFrom n i s t .1 .tables)
 places-held n i s t = session-keeps (λ s′. Longer (s .tables) (s′ .tables))
-    (λ u u′ c l. longer-trans l (longer-step u u′ c)) n i s t (longer-self (s .tables))
+    (λ u u′ c l. longer-trans _ _ _ l (longer-step u u′ c)) n i s t (longer-self (s .tables))
 
 -- ---- the question for 25
 
@@ -105,17 +107,17 @@ every-at test (x ∷ xs) (suc n) e h = every-at test xs n (and-r _ _ e) (let k =
 reached-named : (s : State) → Reached s → Named s
 reached-named s r = record {
   component = λ c e. (let q = isSome-out (s .book .specs c) (unfold specified in e) in
-      every-at validName _ c (r .valid .comps) (r .numbers .specs c (q .0) (q .1) .0));
-  version = λ c v e. (let q = spec-at c v e in every-at validName _ v (r .valid .vers) (q .2));
+      every-at validName _ c (r .valid aComponent) (r .numbers .specs c (q .0) (q .1) .0));
+  version = λ c v e. (let q = spec-at c v e in every-at validName _ v (r .valid aVersion) (q .2));
   provided = λ c f e. (let q = has-out (s .book .specs c) (λ x. x .prov f) (unfold provides in e) in
-      every-at validName _ f (r .valid .facs) (r .numbers .specs c (q .0) (q .1) .1 .prov f (q .2)));
-  required = λ c v f e. (let q = req-at c v f e in every-at validName _ f (r .valid .facs) q);
+      every-at validName _ f (r .valid aFacility) (r .numbers .specs c (q .0) (q .1) .1 .prov f (q .2)));
+  required = λ c v f e. (let q = req-at c v f e in every-at validName _ f (r .valid aFacility) q);
   implemented = λ c v i e. (let q = andThen-out (s .book .modules c) (λ m. m v) i (unfold implementation in e) in
-      every-at validImplementation _ i (r .valid .impls) (r .numbers .modules c (q .0) (q .1) v i (q .2)));
-  comps-once = apart-once _ (r .once .comps);
-  vers-once = apart-once _ (r .once .vers);
-  facs-once = apart-once _ (r .once .facs);
-  impls-once = apart-once _ (r .once .impls);
+      every-at validImplementation _ i (r .valid anImplementation) (r .numbers .modules c (q .0) (q .1) v i (q .2)));
+  comps-once = apart-once _ (r .once aComponent);
+  vers-once = apart-once _ (r .once aVersion);
+  facs-once = apart-once _ (r .once aFacility);
+  impls-once = apart-once _ (r .once anImplementation);
 }
   where
     spec-at : (c v : ℕ) → hasVersion (s .book .specs) c v ≡ true

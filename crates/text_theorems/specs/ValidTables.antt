@@ -19,6 +19,8 @@ use Rattle.text.specs.Tables.{Table, Tables, enter, entered, given, joined, mem
 use Rattle.text.specs.Tables.{modvarNames, modvarNumbered, number, numbers, specNames, specNumbered, sysNames, sysNumbered}
 use Rattle.text.specs.Tables.{sysvarNames, sysvarNumbered}
 use Rattle.text_theorems.specs.BookNumbers.{BookNumbers, more-numbers, puts}
+use Rattle.text_theorems.specs.FourTables.{Kind, aComponent, aFacility, aVersion, anImplementation, entered-table, table}
+use Rattle.text_theorems.specs.FourTables.{valid}
 use Rattle.text_theorems.specs.Numbered.{in-head, in-l, in-r, inside, names-in, spec-in, specIn}
 use Rattle.text_theorems.specs.Places.{apart, enter-apart, enter-every, enter-longer, number-at, place-name, place-there}
 use Rattle.text_theorems.specs.ReadsBack.{okMod, okVersion}
@@ -27,36 +29,18 @@ use Rattle.text_theorems.specs.ValidNames.{validMember, validSys}
 use Rattle.theorems.specs.MapLaws.{isSome-out}
 
 -- every name in the tables is valid
-pub record AllValid (t : Tables) : Type 0 where
-  pub comps : every validName (t .comps) ≡ true
-  pub vers : every validName (t .vers) ≡ true
-  pub facs : every validName (t .facs) ≡ true
-  pub impls : every validImplementation (t .impls) ≡ true
+abbrev pub AllValid : Tables → Type 0
+AllValid t = (k : Kind) → every (valid k) (table k t) ≡ true
 
 -- no name stands twice in a table
-pub record AllApart (t : Tables) : Type 0 where
-  pub comps : apart (t .comps) ≡ true
-  pub vers : apart (t .vers) ≡ true
-  pub facs : apart (t .facs) ≡ true
-  pub impls : apart (t .impls) ≡ true
+abbrev pub AllApart : Tables → Type 0
+AllApart t = (k : Kind) → apart (table k t) ≡ true
 
 pub entered-valid : (t m : Tables) → AllValid t → AllValid m → AllValid (entered t m)
-unfolding entered
-entered-valid t m a b = record {
-  comps = enter-every validName _ _ (a .comps) (b .comps);
-  vers = enter-every validName _ _ (a .vers) (b .vers);
-  facs = enter-every validName _ _ (a .facs) (b .facs);
-  impls = enter-every validImplementation _ _ (a .impls) (b .impls);
-}
+entered-valid t m a b k = ap (every (valid k)) (entered-table k t m) ∙ enter-every (valid k) _ _ (a k) (b k)
 
 pub entered-apart : (t m : Tables) → AllApart t → AllApart (entered t m)
-unfolding entered
-entered-apart t m a = record {
-  comps = enter-apart _ _ (a .comps);
-  vers = enter-apart _ _ (a .vers);
-  facs = enter-apart _ _ (a .facs);
-  impls = enter-apart _ _ (a .impls);
-}
+entered-apart t m a k = ap apart (entered-table k t m) ∙ enter-apart _ _ (a k)
 
 -- ---- the names that a command mentions are valid
 
@@ -71,22 +55,18 @@ one-valid c e = and-in _ _ e refl
 pub spec-valid : (c : Name) (ps : List Name) (vs : List (Name × List Name)) → validName c ≡ true → every validName ps ≡ true
     → every okVersion vs ≡ true → AllValid (specNames c ps vs)
 unfolding specNames okVersion
-spec-valid c ps vs hc hp hv = record {
-  comps = one-valid c hc;
-  vers = firsts-valid okVersion vs (λ x e. and-l _ _ e) hv;
-  facs = every-append validName ps _ hp (every-joined validName (λ x. x .1) vs
-      (every-imp okVersion _ vs (λ x e. and-r _ _ e) hv));
-  impls = every-none _;
-}
+spec-valid c ps vs hc hp hv aComponent = one-valid c hc
+spec-valid c ps vs hc hp hv aVersion = firsts-valid okVersion vs (λ x e. and-l _ _ e) hv
+spec-valid c ps vs hc hp hv aFacility = every-append validName ps _ hp (every-joined validName (λ x. x .1) vs
+    (every-imp okVersion _ vs (λ x e. and-r _ _ e) hv))
+spec-valid c ps vs hc hp hv anImplementation = every-none _
 
 pub mod-valid : (c : Name) (is : List (Name × Name)) → validName c ≡ true → every okMod is ≡ true → AllValid (modNames c is)
 unfolding modNames okMod
-mod-valid c is hc h = record {
-  comps = one-valid c hc;
-  vers = firsts-valid okMod is (λ x e. and-l _ _ e) h;
-  facs = every-none _;
-  impls = every-map (λ x. x .1) validImplementation is ∙ every-imp okMod _ is (λ x e. and-r _ _ e) h;
-}
+mod-valid c is hc h aComponent = one-valid c hc
+mod-valid c is hc h aVersion = firsts-valid okMod is (λ x e. and-l _ _ e) h
+mod-valid c is hc h aFacility = every-none _
+mod-valid c is hc h anImplementation = every-map (λ x. x .1) validImplementation is ∙ every-imp okMod _ is (λ x e. and-r _ _ e) h
 
 members-named : (ms : NamedMembers) → every validMember ms ≡ true → every validName (memberNames ms) ≡ true
 unfolding memberNames validMember
@@ -105,34 +85,29 @@ versions-named ms h = given-valid ms h
 pub sys-valid : (c : Name) (us : List Name) (ks : List (Name × NamedMembers)) → validName c ≡ true → every validName us ≡ true
     → every validSys ks ≡ true → AllValid (sysNames c us ks)
 unfolding sysNames validSys
-sys-valid c us ks hc hu hk = record {
-  comps = every-cons validName c _ hc (every-append validName us _ hu (every-joined validName (λ x. memberNames (x .1)) ks
-      (every-imp validSys _ ks (λ x e. members-named (x .1) (and-r _ _ e)) hk)));
-  vers = every-joined validName (λ x. x .0 ∷ memberVersions (x .1)) ks
-      (every-imp validSys _ ks (λ x e. every-cons validName (x .0) _ (and-l _ _ e) (versions-named (x .1) (and-r _ _ e))) hk);
-  facs = every-none _;
-  impls = every-none _;
-}
+sys-valid c us ks hc hu hk aComponent = every-cons validName c _ hc
+    (every-append validName us _ hu (every-joined validName (λ x. memberNames (x .1)) ks
+    (every-imp validSys _ ks (λ x e. members-named (x .1) (and-r _ _ e)) hk)))
+sys-valid c us ks hc hu hk aVersion = every-joined validName (λ x. x .0 ∷ memberVersions (x .1)) ks
+    (every-imp validSys _ ks (λ x e. every-cons validName (x .0) _ (and-l _ _ e) (versions-named (x .1) (and-r _ _ e))) hk)
+sys-valid c us ks hc hu hk aFacility = every-none _
+sys-valid c us ks hc hu hk anImplementation = every-none _
 
 pub modvar-valid : (c v : Name) (rs : List Name) (i : Name) → validName c ≡ true → validName v ≡ true → every validName rs ≡ true
     → validImplementation i ≡ true → AllValid (modvarNames c v rs i)
 unfolding modvarNames
-modvar-valid c v rs i hc hv hr hi = record {
-  comps = one-valid c hc;
-  vers = one-valid v hv;
-  facs = hr;
-  impls = every-cons validImplementation i [] hi (every-none _);
-}
+modvar-valid c v rs i hc hv hr hi aComponent = one-valid c hc
+modvar-valid c v rs i hc hv hr hi aVersion = one-valid v hv
+modvar-valid c v rs i hc hv hr hi aFacility = hr
+modvar-valid c v rs i hc hv hr hi anImplementation = every-cons validImplementation i [] hi (every-none _)
 
 pub sysvar-valid : (c v : Name) (ms : NamedMembers) → validName c ≡ true → validName v ≡ true → every validMember ms ≡ true
     → AllValid (sysvarNames c v ms)
 unfolding sysvarNames
-sysvar-valid c v ms hc hv hm = record {
-  comps = every-cons validName c _ hc (members-named ms hm);
-  vers = every-cons validName v _ hv (versions-named ms hm);
-  facs = every-none _;
-  impls = every-none _;
-}
+sysvar-valid c v ms hc hv hm aComponent = every-cons validName c _ hc (members-named ms hm)
+sysvar-valid c v ms hc hv hm aVersion = every-cons validName v _ hv (versions-named ms hm)
+sysvar-valid c v ms hc hv hm aFacility = every-none _
+sysvar-valid c v ms hc hv hm anImplementation = every-none _
 
 -- ---- the numbers that a command carries are places that hold a name
 
@@ -152,10 +127,10 @@ numbers-held t ws h = every-map (number t) (held t) ws ∙ every-imp _ _ ws (λ 
 
 -- the numbers in a book all have names in the tables
 abbrev pub NumbersHeld : Tables → Book → Type 0
-NumbersHeld t b = BookNumbers (held (t .comps)) (held (t .vers)) (held (t .facs)) (held (t .impls)) b
+NumbersHeld t b = BookNumbers (λ k. held (table k t)) b
 
 abbrev pub Puts : Tables → Command → Type 0
-Puts t k = puts (held (t .comps)) (held (t .vers)) (held (t .facs)) (held (t .impls)) k ≡ true
+Puts t c = puts (λ k. held (table k t)) c ≡ true
 
 enter-held : (t : Table) (ws : List Name) (n : ℕ) → held t n ≡ true → held (enter t ws) n ≡ true
 unfolding held
@@ -164,8 +139,8 @@ enter-held t ws n h =
     <?-in _ _ (omega arith)
 
 pub entered-held : (t m : Tables) (b : Book) → NumbersHeld t b → NumbersHeld (entered t m) b
-unfolding entered
-entered-held t m b n = more-numbers _ _ _ _ _ _ _ _ (enter-held _ _) (enter-held _ _) (enter-held _ _) (enter-held _ _) b n
+entered-held t m b n = more-numbers _ _ (λ k i h. ap (λ (z : Table). held z i) (entered-table k t m)
+    ∙ enter-held (table k t) (table k m) i h) b n
 
 pub spec-puts : (t : Tables) (c : Name) (ps : List Name) (vs : List (Name × List Name)) (s : Name)
     → Puts (entered t (specNames c ps vs)) (specNumbered (entered t (specNames c ps vs)) c ps vs s)

@@ -241,8 +241,7 @@ module _ (s s′ : State) (A : Alike s s′) where
   order-same (suc n) out out′ e =
       elim (first-same N N′ (λ x. ~ elem x out & ready Y out x) (λ x. ~ elem x out′ & ready Y′ out′ x) ls ls′ names-ls
       (λ x x′ a a′ w. test-same out out′ e x x′ (same-name x x′ (in-ls x a) (in-ls′ x′ a′) w))) [
-        | inl z ↦ ap (map N) (from-none n _ ls out (z .0))
-            ∙ sym (ap (map N′) (from-none n _ ls′ out′ (z .1)))
+        | inl z ↦ ap (map N) (from-none n _ ls out (z .0)) ∙ sym (ap (map N′) (from-none n _ ls′ out′ (z .1)))
         | inr z ↦ ap (map N) (from-some n _ ls out (z .0) (z .2))
             ∙ ap₂ (λ (a : Name) (l : List Name). a ∷ l) (z .4)
             (order-same n (z .0 ∷ out) (z .1 ∷ out′) (ap₂ (λ (a : Name) (l : List Name). a ∷ l) (z .4) e))

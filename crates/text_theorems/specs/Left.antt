@@ -25,8 +25,7 @@ left-all t = record { front = []; is = refl; long = zero-le }
 
 left-more : {n : ℕ} {c : ℕ} {t u : Text} → Left n t u → Left (suc n) (c ∷ t) u
 left-more {c = c} l = record {
-  front = c ∷
-      l .front;
+  front = c ∷ l .front;
   is = ap (λ (z : Text). c ∷ z) (l .is);
   long = (let h = l .long in omega arith);
 }

@@ -143,8 +143,7 @@ unfolding elem
 elem-map-in g [] n e = clash e refl
 elem-map-in g (x ∷ xs) n e = elim (or-out _ _ e) [
   | inl q ↦ or-l _ _ (==-in _ _ (ap g (==-out _ _ q)))
-  | inr q ↦ or-r _ _
-      (elem-map-in g xs n q)
+  | inr q ↦ or-r _ _ (elem-map-in g xs n q)
 ]
 
 pub elem-map-out : (g : ℕ → ℕ) (l : List ℕ) (m : ℕ) → elem m (map g l) ≡ true → (n : ℕ) × (elem n l ≡ true) × (g n ≡ m)

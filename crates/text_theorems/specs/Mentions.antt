@@ -54,8 +54,7 @@ unfolding joined among
 among-seg1 w sel [] ys a = clash a refl
 among-seg1 w sel (x ∷ xs) ys a = elim (among-out w (sel x) _ a) [
   | inl q ↦ among-l w (sel x) _ q
-  | inr q ↦ among-r w (sel x) _
-      (among-seg1 w sel xs ys q)
+  | inr q ↦ among-r w (sel x) _ (among-seg1 w sel xs ys q)
 ]
 
 pub among-seg2 : (w : Name) (sel : Said → List Name) (xs ys : List Said) → among w (joined (map sel ys)) ≡ true

@@ -28,8 +28,7 @@ first-none test (x ∷ xs) e n k =
     elim (bool? (test x)) [
       | inl q ↦ no-some (sym e ∙ if-true _ _ _ q)
       | inr q ↦ elim (or-out _ _ k) [
-        | inl z ↦ ap test (==-out _ _ z)
-            ∙ q
+        | inl z ↦ ap test (==-out _ _ z) ∙ q
         | inr z ↦ first-none test xs (sym (if-false _ _ _ q) ∙ e) n z
       ]
     ]
@@ -45,12 +44,12 @@ first-some test (x ∷ xs) n e =
     ]
 
 -- the next system, or none
-pub from-none : (n : ℕ) (Y : Systems) (ss out : List ℕ) → firstOf (λ s. ~ (elem s out) & ready Y out s) ss ≡ none
+pub from-none : (n : ℕ) (Y : Systems) (ss out : List ℕ) → firstOf (λ s. ~ elem s out & ready Y out s) ss ≡ none
     → systemsFrom (suc n) Y ss out ≡ []
 unfolding systemsFrom ifFound
 from-none n Y ss out e = ap (λ (o : Option ℕ). ifFound o (λ s. s ∷ systemsFrom n Y ss (s ∷ out))) e
 
-pub from-some : (n : ℕ) (Y : Systems) (ss out : List ℕ) (x : ℕ) → firstOf (λ s. ~ (elem s out) & ready Y out s) ss ≡ some x
+pub from-some : (n : ℕ) (Y : Systems) (ss out : List ℕ) (x : ℕ) → firstOf (λ s. ~ elem s out & ready Y out s) ss ≡ some x
     → systemsFrom (suc n) Y ss out ≡ x ∷ systemsFrom n Y ss (x ∷ out)
 unfolding systemsFrom ifFound
 from-some n Y ss out x e = ap (λ (o : Option ℕ). ifFound o (λ s. s ∷ systemsFrom n Y ss (s ∷ out))) e
@@ -65,7 +64,7 @@ module _ (b : Book) (g : Good b) (ss : List ℕ) (ks : Lists ss (isSystem (b .sy
   Y = b .systems
 
   abbrev test : List ℕ → ℕ → Bool
-  test out s = ~ (elem s out) & ready Y out s
+  test out s = ~ elem s out & ready Y out s
 
   ready-in : (out : List ℕ) (s c : ℕ) → ready Y out s ≡ true → usable Y s c ≡ true → isSystem Y c ≡ true → elem c out ≡ true
   unfolding ready
@@ -89,7 +88,7 @@ module _ (b : Book) (g : Good b) (ss : List ℕ) (ks : Lists ss (isSystem (b .sy
       ]
 
   left : List ℕ → ℕ
-  left out = count components (λ s. isSystem Y s & ~ (elem s out))
+  left out = count components (λ s. isSystem Y s & ~ elem s out)
 
   left-falls : (out : List ℕ) (x : ℕ) → isSystem Y x ≡ true → elem x out ≡ false → left (x ∷ out) < left out
   unfolding left elem
@@ -149,6 +148,11 @@ module _ (b : Book) (g : Good b) (ss : List ℕ) (ks : Lists ss (isSystem (b .sy
           | inr z ↦ systems-are n (q .0 ∷ out) x z
         ]
       ]
+
+  -- the bound on systems bounds nothing
+  pub systems-all : (s : ℕ) → isSystem Y s ≡ true → elem s (systemsFrom components Y ss []) ≡ true
+  unfolding left
+  systems-all s k = all-written components [] (count-le components _) s k (unfold elem in refl)
 
   -- ---- under new numbers
 
@@ -212,7 +216,3 @@ module _ (b : Book) (g : Good b) (ss : List ℕ) (ks : Lists ss (isSystem (b .sy
     pub systems-in-turn : InTurn newC Can [] (systemsFrom components Y ss [])
     systems-in-turn = in-turn-from components []
         (record { sys = λ n e. clash e (unfold elem in refl); shut = λ s c e u k. clash e (unfold elem in refl) })
-
-    pub systems-all : (s : ℕ) → isSystem Y s ≡ true → elem s (systemsFrom components Y ss []) ≡ true
-    unfolding left
-    systems-all s k = all-written components [] (count-le components _) s k (unfold elem in refl)

@@ -96,8 +96,7 @@ unfolding among
 among-out w [] u a = inr a
 among-out w (x ∷ xs) u a = elim (or-out _ _ a) [
   | inl q ↦ inl (or-l _ _ q)
-  | inr q ↦ elim
-      (among-out w xs u q) [ inl z ↦ inl (or-r _ _ z) | inr z ↦ inr z ]
+  | inr q ↦ elim (among-out w xs u q) [ inl z ↦ inl (or-r _ _ z) | inr z ↦ inr z ]
 ]
 
 -- ---- names put in
@@ -147,7 +146,7 @@ enter-every test t (w ∷ ws) p q = enter-every test _ ws
 -- the names of a table are all different
 unfoldable pub apart : Table → Bool
 apart [] = true
-apart (x ∷ xs) = ~ (among x xs) & apart xs
+apart (x ∷ xs) = ~ among x xs & apart xs
 
 one-among : (x w : Name) → among x (w ∷ []) ≡ true → same x w ≡ true
 unfolding among

@@ -339,7 +339,7 @@ module _ (st : State) (ok : NamedGood st) where
   unfolding withSystems
   systems-done =
       let e = only-all (pushed newC ss []) systems′ (λ m k. back-in (isSystem Y) (λ n z. g .b2 .sys-spec n z) ss
-      (λ n z. systems-all b g (byName (t .comps) components (isSystem Y)) (ys-lists st ok) re n z) m
+      (λ n z. systems-all b g (byName (t .comps) components (isSystem Y)) (ys-lists st ok) n z) m
       (sym (isSystem′ b re m) ∙ (unfold isSystem in k))) in
       λ i. record { specs = specs′; modules = modules′; systems = e i }
 

@@ -51,15 +51,13 @@ unfoldable pub renumberSpec : (oldV oldF newV : ℕ → ℕ) → Spec → Spec
 renumberSpec oldV oldF newV x = record {
   prov = λ f. x .prov (oldF f);
   req = λ v. optionMap (λ q f. q (oldF f)) (x .req (oldV v));
-  std = newV
-      (x .std);
+  std = newV (x .std);
 }
 
 unfoldable pub renumberSystem : (oldC oldV newV : ℕ → ℕ) → System → System
 renumberSystem oldC oldV newV y = record {
   uses = λ c. y .uses (oldC c);
-  comp = λ v. optionMap (λ m c. optionMap newV (m (oldC c)))
-      (y .comp (oldV v));
+  comp = λ v. optionMap (λ m c. optionMap newV (m (oldC c))) (y .comp (oldV v));
 }
 
 unfoldable pub renumberModule : (oldV newI : ℕ → ℕ) → Map ℕ → Map ℕ

@@ -51,8 +51,7 @@ runs-text (step {s} {s₁} {s₂} {k} {ks} w e r) (suc n) i h =
     ap (onRead _ i s) (command-reads k (joined (map line ks)) w)
     ∙ ap (λ (x : Result). (
       lines i x ++ sessionFrom n (suc i) (afterwards s x) (10 ∷ joined (map line ks)) .0,
-      sessionFrom n
-          (suc i) (afterwards s x) (10 ∷ joined (map line ks)) .1,
+      sessionFrom n (suc i) (afterwards s x) (10 ∷ joined (map line ks)) .1,
     )) e
     ∙ ap (λ (x : Text × State). (row i (decimal 0) ++ x .0, x .1)) (session-linefeed n (suc i) s₁ (joined (map line ks))
     ∙ runs-text r n (suc i) (omega arith))

@@ -152,8 +152,7 @@ module _ (b : Book) (g : Good b) (re : Renumbering (b .specs) (b .modules)) wher
         let x = q .0 in let e = q .1 in
         let y : Spec = record {
           prov = setOf (map newF lp);
-          req = λ v. optionMap setOf
-              (beside (map (λ v. (newV v, map newF (lq v))) lv) v);
+          req = λ v. optionMap setOf (beside (map (λ v. (newV v, map newF (lq v))) lv) v);
           std = newV (standard S c);
         } in
         let z : y ≡ renumberSpec oldV oldF newV x = λ i. record {

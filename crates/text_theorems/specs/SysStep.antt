@@ -246,8 +246,7 @@ module _ (b : Book) (g : Good b) (re : Renumbering (b .specs) (b .modules)) wher
         let q = isSome-out (Y s) (unfold isSystem in there) in
         let y : System = record {
           uses = setOf (map newC lu);
-          comp = λ v. optionMap (stored S′)
-              (beside (map (λ v. (newV v, sysMembers s ls v)) lv) v);
+          comp = λ v. optionMap (stored S′) (beside (map (λ v. (newV v, sysMembers s ls v)) lv) v);
         } in
         let z : y ≡ renumberSystem oldC oldV newV (q .0) = λ i. record {
           uses = λ c. (new-each (re .ofC) lu ku sysU c ∙ uses-at (q .0) (q .1) (oldC c)) i;

@@ -68,8 +68,7 @@ pub every-among : (test : Name → Bool) (t : Table) (w : Name) → every test t
 unfolding every among
 every-among test [] w p a = clash a refl
 every-among test (x ∷ xs) w p a = elim (or-out _ _ a) [
-  | inl q ↦ ap test (same-out w x q)
-      ∙ and-l _ _ p
+  | inl q ↦ ap test (same-out w x q) ∙ and-l _ _ p
   | inr q ↦ every-among test xs w (and-r _ _ p) q
 ]
 

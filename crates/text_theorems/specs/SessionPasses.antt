@@ -1,14 +1,16 @@
 -- Every state that a session reaches passes the question for 25, its book and its tables: for every text.
 use mathlib.Core.Bool.{Bool, true}
-use mathlib.Core.List.{[], _∷_}
+use mathlib.Core.List.{List, [], _++_, _∷_}
 use mathlib.Core.Option.{Option·some-injective, some}
 use mathlib.Core.Path.{_∙_, _≡_, ap, refl, sym}
 use Prim.Native.Nat.{suc, zero, ℕ}
 use native.Mathlib.Omega.{arith}
 use lib.ListN.{length}
-use Rattle.model.specs.Book.{hasVersion, implementation, provides, required, requires, specified}
+use Rattle.model.specs.Book.{Book, empty, hasVersion, implementation, provides, required, requires, specified}
+use Rattle.model.specs.Commands.{Command, after}
 use Rattle.model.specs.Lists.{every, once}
 use Rattle.model.specs.Maps.{andThen}
+use Rattle.model.specs.PlainBook.{answer, next, reached}
 use Rattle.sets.specs.Sets.{Set}
 use Rattle.sets.specs.TestLaws.{<?-in, <?-out, and-l, and-r}
 use Rattle.sets.specs.Tests.{_&_, _≤?_}
@@ -95,6 +97,35 @@ longer-step s s′ (adds m k v p f e) = longer-entered (s .tables) m
 pub places-held : (n i : ℕ) (s : State) (t : Text) → Longer (s .tables) (sessionFrom n i s t .1 .tables)
 places-held n i s t = session-keeps (λ s′. Longer (s .tables) (s′ .tables))
     (λ u u′ c l. longer-trans _ _ _ l (longer-step u u′ c)) n i s t (longer-self (s .tables))
+
+-- ---- the plain book
+
+reached-append : (b : Book) (ks : List Command) (k : Command) → reached b (ks ++ (k ∷ [])) ≡ next (reached b ks) k
+unfolding reached
+reached-append b [] k = refl
+reached-append b (j ∷ ks) k = reached-append (next b j) ks k
+
+next-yes : (b : Book) (k : Command) → answer b k ≡ 0 → next b k ≡ after b k
+unfolding next
+next-yes b k e = ap (λ (n : ℕ). elim n as (λ n. Book) [ zero ↦ after b k | suc m ↦ b ]) e
+
+-- the book is one that the plain book reaches
+abbrev Plain : State → Type 0
+Plain s = (ks : List Command) × (reached empty ks ≡ s .book)
+
+plain-more : (s : State) (k : Command) → Plain s → answer (s .book) k ≡ 0
+    → (ks : List Command) × (reached empty ks ≡ after (s .book) k)
+plain-more s k q e =
+    (q .0 ++ (k ∷ []), reached-append empty (q .0) k ∙ ap (λ (b : Book). next b k) (q .1) ∙ next-yes (s .book) k e)
+
+plain-step : (s s′ : State) → Changes s s′ → Plain s → Plain s′
+plain-step s s′ stays q = q
+plain-step s s′ (tells k p e) q = plain-more s k q e
+plain-step s s′ (adds m k v p f e) q = plain-more s k q e
+
+-- A session's book is the plain book's after some commands: what is true of every sequence is true of a session.
+pub session-plain : (n : ℕ) (t : Text) → (ks : List Command) × (reached empty ks ≡ sessionFrom n 1 fresh t .1 .book)
+session-plain n t = session-keeps Plain plain-step n 1 fresh t ([], (unfold reached in refl))
 
 -- ---- the question for 25
 

@@ -1,0 +1,14 @@
+pub mod Bytes
+pub mod Tokens
+pub mod Language
+pub mod Tables
+pub mod Written
+pub mod Session
+pub mod SameByNames
+pub mod Handed
+pub mod LentSlice
+pub mod Example
+pub mod LanguageTable
+pub mod TablesTable
+pub mod WrittenTable
+pub mod CallsTable

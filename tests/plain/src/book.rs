@@ -124,28 +124,19 @@ impl Book {
 
     /// How many versions the component has.
     pub fn version_count(&self, component: Number) -> usize {
-        self.specifications
-            .get(&component)
-            .map_or(0, |specification| specification.versions.len())
+        self.specifications.get(&component).map_or(0, |specification| specification.versions.len())
     }
 
     /// "where the mission lists or counts versions it means pairs"
     pub fn pairs(&self) -> impl Iterator<Item = Pair> + '_ {
-        self.specifications
-            .iter()
-            .flat_map(|(component, specification)| {
-                specification
-                    .versions
-                    .keys()
-                    .map(|version| (*component, *version))
-            })
+        self.specifications.iter().flat_map(|(component, specification)| {
+            specification.versions.keys().map(|version| (*component, *version))
+        })
     }
 
     /// The standard version of a specified component.
     pub fn standard_of(&self, component: Number) -> Option<Number> {
-        self.specifications
-            .get(&component)
-            .map(|specification| specification.standard)
+        self.specifications.get(&component).map(|specification| specification.standard)
     }
 
     /// The facilities that a component provides; none where it is unspecified.
@@ -260,17 +251,11 @@ impl Book {
                     .is_some_and(|specification| same_versions(module, &specification.versions))
         };
         let system_fits = |(component, system): (&Number, &System)| {
-            system
-                .usable
-                .iter()
-                .all(|usable| self.is_specified(*usable))
-                && self
-                    .specifications
-                    .get(component)
-                    .is_some_and(|specification| {
-                        same_versions(&system.compositions, &specification.versions)
-                            && specification.versions.values().all(BTreeSet::is_empty)
-                    })
+            system.usable.iter().all(|usable| self.is_specified(*usable))
+                && self.specifications.get(component).is_some_and(|specification| {
+                    same_versions(&system.compositions, &specification.versions)
+                        && specification.versions.values().all(BTreeSet::is_empty)
+                })
         };
         self.modules.iter().all(module_fits) && self.systems.iter().all(system_fits)
     }
@@ -278,8 +263,7 @@ impl Book {
     /// B3 "What a system provides is provided by its usable components together."
     pub fn b3(&self) -> bool {
         self.systems.iter().all(|(component, system)| {
-            self.provided_by(*component)
-                .is_subset(&self.provided_by_all(system.usable.iter()))
+            self.provided_by(*component).is_subset(&self.provided_by_all(system.usable.iter()))
         })
     }
 
@@ -305,11 +289,7 @@ impl Book {
         self.composed().all(|composed| {
             let mut seen = Facilities::new();
             let mut members = composed.composition.keys();
-            members.all(|member| {
-                self.provided_by(*member)
-                    .into_iter()
-                    .all(|f| seen.insert(f))
-            })
+            members.all(|member| self.provided_by(*member).into_iter().all(|f| seen.insert(f)))
         })
     }
 
@@ -340,10 +320,8 @@ impl Book {
 
     /// B8 "p holds all that s provides."
     pub fn b8(&self) -> bool {
-        self.composed().all(|composed| {
-            self.provided_by(composed.component)
-                .is_subset(&self.p(&composed))
-        })
+        self.composed()
+            .all(|composed| self.provided_by(composed.component).is_subset(&self.p(&composed)))
     }
 
     /// B9 "No facility in r outside p is provided by a usable component of s."
@@ -368,10 +346,7 @@ impl Book {
     /// "are its numbers below their limits"
     pub fn below_limits(&self) -> bool {
         all_below(self.specifications.keys(), COMPONENTS)
-            && self
-                .specifications
-                .values()
-                .all(Specification::below_limits)
+            && self.specifications.values().all(Specification::below_limits)
             && all_below(self.modules.keys(), COMPONENTS)
             && self.modules.values().all(|module| {
                 all_below(module.keys(), VERSIONS) && all_below(module.values(), IMPLEMENTATIONS)
@@ -415,9 +390,7 @@ pub fn number_of(answer: Answer) -> Number {
 
 /// A facility set is a 64-bit number, one bit for each facility.
 pub fn facilities(bits: u64) -> Facilities {
-    (0..FACILITIES)
-        .filter(|facility| bits >> facility & 1 == 1)
-        .collect()
+    (0..FACILITIES).filter(|facility| bits >> facility & 1 == 1).collect()
 }
 
 /// The 64-bit number of a facility set.

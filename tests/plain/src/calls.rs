@@ -62,38 +62,24 @@ impl Call {
     /// Carries out the call on a book.
     pub fn perform(&self, book: &mut Book) -> Answer {
         match self {
-            Call::AddSpec {
-                component,
-                provides,
-                versions,
-                requires,
-                standard,
-            } => book.add_spec(*component, *provides, versions, requires, *standard),
-            Call::AddMod {
-                component,
-                versions,
-                implementations,
-            } => book.add_mod(*component, versions, implementations),
-            Call::AddSys {
-                component,
-                usable,
-                versions,
-                compositions,
-            } => book.add_sys(*component, usable, versions, compositions),
+            Call::AddSpec { component, provides, versions, requires, standard } => {
+                book.add_spec(*component, *provides, versions, requires, *standard)
+            }
+            Call::AddMod { component, versions, implementations } => {
+                book.add_mod(*component, versions, implementations)
+            }
+            Call::AddSys { component, usable, versions, compositions } => {
+                book.add_sys(*component, usable, versions, compositions)
+            }
             Call::DelSpec(component) => book.del_spec(*component),
             Call::DelMod(component) => book.del_mod(*component),
             Call::DelSys(component) => book.del_sys(*component),
-            Call::AddModvar {
-                component,
-                version,
-                requires,
-                implementation,
-            } => book.add_modvar(*component, *version, *requires, *implementation),
-            Call::AddSysvar {
-                component,
-                version,
-                composition,
-            } => book.add_sysvar(*component, *version, composition),
+            Call::AddModvar { component, version, requires, implementation } => {
+                book.add_modvar(*component, *version, *requires, *implementation)
+            }
+            Call::AddSysvar { component, version, composition } => {
+                book.add_sysvar(*component, *version, composition)
+            }
             Call::DelModvar(component, version) => book.del_modvar(*component, *version),
             Call::DelSysvar(component, version) => book.del_sysvar(*component, *version),
         }
@@ -117,56 +103,33 @@ impl Call {
 
     /// The call as a line, without its line feed.
     pub fn line(&self) -> String {
-        let fields = match self {
-            Call::AddSpec {
-                component,
-                provides,
-                versions,
-                requires,
-                standard,
-            } => format!(
-                "{component} {provides} {} {} {standard}",
-                list(versions),
-                list(requires)
-            ),
-            Call::AddMod {
-                component,
-                versions,
-                implementations,
-            } => format!("{component} {} {}", list(versions), list(implementations)),
-            Call::AddSys {
-                component,
-                usable,
-                versions,
-                compositions,
-            } => {
+        let word = self.word();
+        match self {
+            Call::AddSpec { component, provides, versions, requires, standard } => {
+                let (versions, requires) = (list(versions), list(requires));
+                format!("{word} {component} {provides} {versions} {requires} {standard}")
+            }
+            Call::AddMod { component, versions, implementations } => {
+                format!("{word} {component} {} {}", list(versions), list(implementations))
+            }
+            Call::AddSys { component, usable, versions, compositions } => {
                 let composed: Vec<String> = compositions.iter().map(|c| members(c)).collect();
-                format!(
-                    "{component} {} {} {}",
-                    list(usable),
-                    list(versions),
-                    list(&composed)
-                )
+                let (usable, versions, composed) = (list(usable), list(versions), list(&composed));
+                format!("{word} {component} {usable} {versions} {composed}")
+            }
+            Call::AddModvar { component, version, requires, implementation } => {
+                format!("{word} {component} {version} {requires} {implementation}")
+            }
+            Call::AddSysvar { component, version, composition } => {
+                format!("{word} {component} {version} {}", members(composition))
             }
             Call::DelSpec(component) | Call::DelMod(component) | Call::DelSys(component) => {
-                component.to_string()
+                format!("{word} {component}")
             }
-            Call::AddModvar {
-                component,
-                version,
-                requires,
-                implementation,
-            } => format!("{component} {version} {requires} {implementation}"),
-            Call::AddSysvar {
-                component,
-                version,
-                composition,
-            } => format!("{component} {version} {}", members(composition)),
             Call::DelModvar(component, version) | Call::DelSysvar(component, version) => {
-                format!("{component} {version}")
+                format!("{word} {component} {version}")
             }
-        };
-        format!("{} {fields}", self.word())
+        }
     }
 
     /// Reads a line; none where it has not this form.
@@ -293,11 +256,7 @@ pub fn book_lines(book: &Book) -> String {
     for (component, module) in &book.modules {
         let versions: Vec<&Number> = module.keys().collect();
         let implementations: Vec<&Number> = module.values().collect();
-        lines += &format!(
-            "mod {component} {} {}\n",
-            list(&versions),
-            list(&implementations)
-        );
+        lines += &format!("mod {component} {} {}\n", list(&versions), list(&implementations));
     }
     for (component, system) in &book.systems {
         let usable: Vec<&Number> = system.usable.iter().collect();

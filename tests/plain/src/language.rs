@@ -188,9 +188,7 @@ impl<'a> Reader<'a> {
                 b' ' | b'\t' | b'\r' | b'\n' => self.position += 1,
                 b'{' => {
                     let mut rest = self.rest().iter();
-                    let end = rest
-                        .position(|byte| *byte == b'}')
-                        .ok_or(NotOfTheLanguage)?;
+                    let end = rest.position(|byte| *byte == b'}').ok_or(NotOfTheLanguage)?;
                     self.position += end + 1;
                 }
                 _ => break,
@@ -320,12 +318,7 @@ impl<'a> Reader<'a> {
         let [standard] = standards[..] else {
             return Err(NotOfTheLanguage);
         };
-        Ok(Command::Spec {
-            component,
-            provides,
-            versions,
-            standard,
-        })
+        Ok(Command::Spec { component, provides, versions, standard })
     }
 
     /// add-mod = "mod" cn ";" vn "impl" imp {";" vn "impl" imp} "end".
@@ -337,10 +330,7 @@ impl<'a> Reader<'a> {
             Ok((version, reader.implementation()?))
         })?;
         self.keyword(b"end")?;
-        Ok(Command::Mod {
-            component,
-            versions,
-        })
+        Ok(Command::Mod { component, versions })
     }
 
     /// add-sys = "sys" cn "use" cns ";" vn "=" compos {";" vn "=" compos} "end".
@@ -354,11 +344,7 @@ impl<'a> Reader<'a> {
             Ok((version, reader.composition()?))
         })?;
         self.keyword(b"end")?;
-        Ok(Command::Sys {
-            component,
-            usable,
-            compositions,
-        })
+        Ok(Command::Sys { component, usable, compositions })
     }
 
     /// add-modvar = "modvar" cn"."vn ["requires" facs] "impl" imp.
@@ -377,11 +363,7 @@ impl<'a> Reader<'a> {
         let (component, version) = self.pair()?;
         let composition = self.composition()?;
         self.keyword(b"end")?;
-        Ok(Command::Sysvar {
-            component,
-            version,
-            composition,
-        })
+        Ok(Command::Sysvar { component, version, composition })
     }
 
     /// "choice" [facs] "end".
@@ -408,11 +390,8 @@ impl<'a> Reader<'a> {
         self.sign(b'=')?;
         self.parted(b',', |reader| {
             let member = reader.name()?;
-            let version = if reader.takes(Token::Sign(b'.'))? {
-                Some(reader.name()?)
-            } else {
-                None
-            };
+            let version =
+                if reader.takes(Token::Sign(b'.'))? { Some(reader.name()?) } else { None };
             Ok((member, version))
         })
     }

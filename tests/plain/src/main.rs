@@ -42,24 +42,16 @@ fn run(arguments: &[&str]) -> Option<std::io::Result<Vec<u8>>> {
         ["session"] => run_session(PROGRAM_LIMIT),
         ["session", limit] => run_session(limit.parse().ok()?),
         ["calls"] => run_calls(),
-        ["generate", kind, seed] => Ok(generate::generate(
-            Kind::read(kind)?,
-            seed.parse().ok()?,
-            None,
-        )),
+        ["generate", kind, seed] => {
+            Ok(generate::generate(Kind::read(kind)?, seed.parse().ok()?, None))
+        }
         ["generate", kind, seed, count] => {
             let count = Some(count.parse().ok()?);
-            Ok(generate::generate(
-                Kind::read(kind)?,
-                seed.parse().ok()?,
-                count,
-            ))
+            Ok(generate::generate(Kind::read(kind)?, seed.parse().ok()?, count))
         }
         ["coverage", kind, seed, count] => {
             let (seed, count) = (seed.parse().ok()?, count.parse().ok()?);
-            Ok(coverage::coverage(Kind::read(kind)?, seed, count)
-                .table()
-                .into_bytes())
+            Ok(coverage::coverage(Kind::read(kind)?, seed, count).table().into_bytes())
         }
         _ => return None,
     })

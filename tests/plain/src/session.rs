@@ -52,10 +52,7 @@ pub struct Session {
 
 impl Table {
     fn new(limit: Number) -> Self {
-        Table {
-            limit,
-            places: BTreeMap::new(),
-        }
+        Table { limit, places: BTreeMap::new() }
     }
 
     /// The number of a name; "a name that stands in no table has no number".
@@ -103,9 +100,7 @@ impl Default for Tables {
 impl Tables {
     /// The set of the facilities as a 64-bit number, with places for new names.
     fn facility_set(&mut self, names: &[Name]) -> Result<u64, Number> {
-        names.iter().try_fold(0, |set, name| {
-            Ok(set | 1 << self.facilities.number_or_place(name)?)
-        })
+        names.iter().try_fold(0, |set, name| Ok(set | 1 << self.facilities.number_or_place(name)?))
     }
 
     /// The members of a composition, with places for new names.
@@ -130,37 +125,22 @@ impl Tables {
     /// The call of an adding command, with places for its new names.
     pub fn adding_call(&mut self, command: &Command) -> Result<Call, Number> {
         match command {
-            Command::Spec {
-                component,
-                provides,
-                versions,
-                standard,
-            } => self.add_spec(component, provides, versions, standard),
-            Command::Mod {
-                component,
-                versions,
-            } => self.add_mod(component, versions),
-            Command::Sys {
-                component,
-                usable,
-                compositions,
-            } => self.add_sys(component, usable, compositions),
-            Command::Modvar {
-                component,
-                version,
-                requires,
-                implementation,
-            } => Ok(Call::AddModvar {
-                component: self.components.number_or_place(component)?,
-                version: self.versions.number_or_place(version)?,
-                requires: self.facility_set(requires)?,
-                implementation: self.implementations.number_or_place(implementation)?,
-            }),
-            Command::Sysvar {
-                component,
-                version,
-                composition,
-            } => Ok(Call::AddSysvar {
+            Command::Spec { component, provides, versions, standard } => {
+                self.add_spec(component, provides, versions, standard)
+            }
+            Command::Mod { component, versions } => self.add_mod(component, versions),
+            Command::Sys { component, usable, compositions } => {
+                self.add_sys(component, usable, compositions)
+            }
+            Command::Modvar { component, version, requires, implementation } => {
+                Ok(Call::AddModvar {
+                    component: self.components.number_or_place(component)?,
+                    version: self.versions.number_or_place(version)?,
+                    requires: self.facility_set(requires)?,
+                    implementation: self.implementations.number_or_place(implementation)?,
+                })
+            }
+            Command::Sysvar { component, version, composition } => Ok(Call::AddSysvar {
                 component: self.components.number_or_place(component)?,
                 version: self.versions.number_or_place(version)?,
                 composition: self.composition(composition)?,
@@ -201,11 +181,7 @@ impl Tables {
             versions.push(self.versions.number_or_place(version)?);
             implementations.push(self.implementations.number_or_place(implementation)?);
         }
-        Ok(Call::AddMod {
-            component,
-            versions,
-            implementations,
-        })
+        Ok(Call::AddMod { component, versions, implementations })
     }
 
     fn add_sys(
@@ -222,12 +198,7 @@ impl Tables {
             versions.push(self.versions.number_or_place(version)?);
             compositions.push(self.composition(members)?);
         }
-        Ok(Call::AddSys {
-            component,
-            usable,
-            versions,
-            compositions,
-        })
+        Ok(Call::AddSys { component, usable, versions, compositions })
     }
 
     fn pair_names(&self, pairs: Vec<Pair>) -> Rows {
@@ -240,9 +211,7 @@ impl Tables {
 }
 
 fn names_in(table: &Table, numbers: impl IntoIterator<Item = Number>) -> Rows {
-    let names = numbers
-        .into_iter()
-        .map(|number| table.name(number).to_vec());
+    let names = numbers.into_iter().map(|number| table.name(number).to_vec());
     Rows::Names(names.collect())
 }
 
@@ -323,10 +292,7 @@ impl Session {
             }
             Command::Needs(c, v) => {
                 let (component, version) = self.pair((c, v), Book::is_specified, 4)?;
-                Ok(names_in(
-                    &tables.facilities,
-                    book.needs(component, version)?,
-                ))
+                Ok(names_in(&tables.facilities, book.needs(component, version)?))
             }
             Command::Choice(wanted) => self.choice(wanted),
             Command::Standard(c) => {
@@ -409,21 +375,13 @@ pub fn watched(text: &[u8], slice: usize, mut tell: impl FnMut(&str, Number)) ->
         tell(word, answer.as_ref().err().copied().unwrap_or(0));
         write_rows(&mut listing, number, &answer);
         if listing.len() > slice {
-            return Outcome {
-                listing: Err(22),
-                book: Book::default(),
-                tables: Tables::default(),
-            };
+            return Outcome { listing: Err(22), book: Book::default(), tables: Tables::default() };
         }
         if command.is_none() {
             break;
         }
     }
-    Outcome {
-        listing: Ok(listing),
-        book: session.book,
-        tables: session.tables,
-    }
+    Outcome { listing: Ok(listing), book: session.book, tables: session.tables }
 }
 
 /// The session on a lent slice: the listing fills its start and the rest is

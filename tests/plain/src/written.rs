@@ -14,21 +14,13 @@ fn no_name_twice(table: &Table) -> bool {
 /// "one valid name for each number in the book"
 fn names_valid(book: &Book, tables: &Tables) -> bool {
     let name = |table: &Table, number: &Number| is_name(table.name(*number));
-    let specified = book
-        .specifications
-        .iter()
-        .all(|(component, specification)| {
-            let mut facilities = specification
-                .provides
-                .iter()
-                .chain(specification.versions.values().flatten());
-            name(&tables.components, component)
-                && specification
-                    .versions
-                    .keys()
-                    .all(|version| name(&tables.versions, version))
-                && facilities.all(|facility| name(&tables.facilities, facility))
-        });
+    let specified = book.specifications.iter().all(|(component, specification)| {
+        let mut facilities =
+            specification.provides.iter().chain(specification.versions.values().flatten());
+        name(&tables.components, component)
+            && specification.versions.keys().all(|version| name(&tables.versions, version))
+            && facilities.all(|facility| name(&tables.facilities, facility))
+    });
     let mut implementations = book.modules.values().flat_map(BTreeMap::values);
     specified
         && implementations.all(|number| is_implementation(tables.implementations.name(*number)))
@@ -51,11 +43,7 @@ pub fn text(book: &Book, tables: &Tables, slice: usize) -> Result<Vec<u8>, Numbe
     ask(book.is_sound() && tables_fit(book, tables), 25)?;
     let mut lines: Vec<Vec<u8>> = Vec::new();
     for component in by_name(book.specifications.keys(), &tables.components) {
-        lines.push(spec_line(
-            component,
-            &book.specifications[&component],
-            tables,
-        ));
+        lines.push(spec_line(component, &book.specifications[&component], tables));
     }
     for component in by_name(book.modules.keys(), &tables.components) {
         lines.push(module_line(component, &book.modules[&component], tables));
@@ -90,9 +78,7 @@ fn systems_in_order(book: &Book, tables: &Tables) -> Vec<Number> {
 }
 
 fn names<'a>(numbers: impl IntoIterator<Item = &'a Number>, table: &Table) -> Vec<u8> {
-    let names = by_name(numbers, table)
-        .into_iter()
-        .map(|number| table.name(number));
+    let names = by_name(numbers, table).into_iter().map(|number| table.name(number));
     names.collect::<Vec<_>>().join(&b", "[..])
 }
 

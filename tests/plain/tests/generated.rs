@@ -1,7 +1,7 @@
 //! Generated sessions and calls: reading back, what the answers reach, and
 //! what holds of every book reached.
 
-use plain::book::{Book, Facilities, Number, Pair};
+use plain::book::{Book, Facilities, Number, Pair, Specification, System};
 use plain::calls::Call;
 use plain::coverage::coverage;
 use plain::generate::{generate, Kind};
@@ -19,66 +19,87 @@ fn read_back(outcome: &Outcome) {
     let lines = text.iter().filter(|byte| **byte == b'\n').count();
     let accepted: String = (1..=lines).map(|number| format!("{number},0\n")).collect();
     assert_eq!(again.listing, Ok(accepted.into_bytes()));
-    assert_eq!(
-        written::text(&again.book, &again.tables, usize::MAX),
-        Ok(text)
-    );
-    assert_eq!(
-        facts(&outcome.book, &outcome.tables),
-        facts(&again.book, &again.tables)
-    );
+    assert_eq!(written::text(&again.book, &again.tables, usize::MAX), Ok(text));
+    assert_eq!(facts(&outcome.book, &outcome.tables), facts(&again.book, &again.tables));
 }
 
-/// Every fact of the book, with its numbers replaced by names.
-fn facts(book: &Book, tables: &Tables) -> BTreeSet<Vec<String>> {
-    let name = |table: &plain::session::Table, number: &Number| {
-        String::from_utf8_lossy(table.name(*number)).into_owned()
-    };
-    let c = |number: &Number| name(&tables.components, number);
-    let v = |number: &Number| name(&tables.versions, number);
-    let f = |number: &Number| name(&tables.facilities, number);
-    let i = |number: &Number| name(&tables.implementations, number);
-    let mut facts = BTreeSet::new();
-    let mut fact = |words: &[&str]| {
-        facts.insert(words.iter().map(|word| word.to_string()).collect());
-    };
-    for (component, specification) in &book.specifications {
-        fact(&["specified", &c(component)]);
-        fact(&["standard", &c(component), &v(&specification.standard)]);
-        for facility in &specification.provides {
-            fact(&["provides", &c(component), &f(facility)]);
+/// Facts with their numbers replaced by names.
+struct Facts<'a> {
+    tables: &'a Tables,
+    held: BTreeSet<Vec<String>>,
+}
+
+/// A number of a table.
+enum Of {
+    Component(Number),
+    Version(Number),
+    Facility(Number),
+    Implementation(Number),
+}
+
+impl Facts<'_> {
+    fn hold(&mut self, word: &str, numbers: &[Of]) {
+        let name = |of: &Of| {
+            String::from_utf8_lossy(match of {
+                Of::Component(number) => self.tables.components.name(*number),
+                Of::Version(number) => self.tables.versions.name(*number),
+                Of::Facility(number) => self.tables.facilities.name(*number),
+                Of::Implementation(number) => self.tables.implementations.name(*number),
+            })
+            .into_owned()
+        };
+        let mut fact = vec![word.to_string()];
+        fact.extend(numbers.iter().map(name));
+        self.held.insert(fact);
+    }
+
+    fn hold_specification(&mut self, c: Number, specification: &Specification) {
+        self.hold("specified", &[Of::Component(c)]);
+        self.hold("standard", &[Of::Component(c), Of::Version(specification.standard)]);
+        for f in &specification.provides {
+            self.hold("provides", &[Of::Component(c), Of::Facility(*f)]);
         }
-        for (version, required) in &specification.versions {
-            fact(&["version", &c(component), &v(version)]);
-            for facility in required {
-                fact(&["requires", &c(component), &v(version), &f(facility)]);
+        for (v, required) in &specification.versions {
+            self.hold("version", &[Of::Component(c), Of::Version(*v)]);
+            for f in required {
+                self.hold("requires", &[Of::Component(c), Of::Version(*v), Of::Facility(*f)]);
             }
         }
     }
-    for (component, module) in &book.modules {
-        fact(&["module", &c(component)]);
-        for (version, implementation) in module {
-            fact(&[
-                "implemented",
-                &c(component),
-                &v(version),
-                &i(implementation),
-            ]);
-        }
-    }
-    for (component, system) in &book.systems {
-        fact(&["system", &c(component)]);
+
+    fn hold_system(&mut self, c: Number, system: &System) {
+        self.hold("system", &[Of::Component(c)]);
         for usable in &system.usable {
-            fact(&["usable", &c(component), &c(usable)]);
+            self.hold("usable", &[Of::Component(c), Of::Component(*usable)]);
         }
-        for (version, composition) in &system.compositions {
-            fact(&["composed", &c(component), &v(version)]);
+        for (v, composition) in &system.compositions {
+            self.hold("composed", &[Of::Component(c), Of::Version(*v)]);
             for (member, held) in composition {
-                fact(&["member", &c(component), &v(version), &c(member), &v(held)]);
+                let (pair, member) = ((c, *v), (*member, *held));
+                let numbers = [pair, member].map(|(c, v)| [Of::Component(c), Of::Version(v)]);
+                self.hold("member", &numbers.into_iter().flatten().collect::<Vec<_>>());
             }
         }
     }
-    facts
+}
+
+/// Every fact of the book by names.
+fn facts(book: &Book, tables: &Tables) -> BTreeSet<Vec<String>> {
+    let mut facts = Facts { tables, held: BTreeSet::new() };
+    for (c, specification) in &book.specifications {
+        facts.hold_specification(*c, specification);
+    }
+    for (c, module) in &book.modules {
+        facts.hold("module", &[Of::Component(*c)]);
+        for (v, i) in module {
+            let numbers = [Of::Component(*c), Of::Version(*v), Of::Implementation(*i)];
+            facts.hold("implemented", &numbers);
+        }
+    }
+    for (c, system) in &book.systems {
+        facts.hold_system(*c, system);
+    }
+    facts.held
 }
 
 #[test]
@@ -150,10 +171,7 @@ const CALL_ANSWERS: [(&str, &[Number]); 10] = [
 
 fn expected(answers: &[(&str, &[Number])]) -> BTreeSet<(String, Number)> {
     let each = |(word, numbers): &(&str, &[Number])| -> Vec<(String, Number)> {
-        numbers
-            .iter()
-            .map(|number| (word.to_string(), *number))
-            .collect()
+        numbers.iter().map(|number| (word.to_string(), *number)).collect()
     };
     answers.iter().flat_map(each).collect()
 }
@@ -162,12 +180,9 @@ fn expected(answers: &[(&str, &[Number])]) -> BTreeSet<(String, Number)> {
 fn sessions_reach_every_answer_and_no_other() {
     let mut reached = BTreeSet::new();
     let mut deepest = 0;
-    for (kind, count) in [
-        (Kind::Growing, 40),
-        (Kind::Mixed, 150),
-        (Kind::Full, 60),
-        (Kind::Long, 4),
-    ] {
+    for (kind, count) in
+        [(Kind::Growing, 40), (Kind::Mixed, 150), (Kind::Full, 60), (Kind::Long, 4)]
+    {
         let coverage = coverage(kind, 1, count);
         reached.extend(coverage.answers.into_keys());
         deepest = deepest.max(coverage.depths.keys().copied().max().unwrap_or(0));
@@ -189,19 +204,14 @@ fn needs(book: &Book, (component, version): Pair) -> Facilities {
         None => book.specifications[&component].versions[&version].clone(),
         Some(system) => {
             let members = system.compositions[&version].iter();
-            members
-                .flat_map(|(member, version)| needs(book, (*member, *version)))
-                .collect()
+            members.flat_map(|(member, version)| needs(book, (*member, *version))).collect()
         }
     }
 }
 
 /// The longest chain from a pair, over all chains.
 fn longest_chain(book: &Book, pair: Pair) -> usize {
-    let chains = book
-        .members(pair)
-        .into_iter()
-        .map(|member| longest_chain(book, member));
+    let chains = book.members(pair).into_iter().map(|member| longest_chain(book, member));
     1 + chains.max().unwrap_or(0)
 }
 
@@ -218,10 +228,7 @@ fn check_parts(book: &Book) {
         assert_eq!(parts.rows.last(), Some(&pair));
         let mut listed = BTreeSet::new();
         for row in &parts.rows {
-            assert!(book
-                .members(*row)
-                .iter()
-                .all(|member| listed.contains(member)));
+            assert!(book.members(*row).iter().all(|member| listed.contains(member)));
             assert!(listed.insert(*row));
             let held = |user: &Pair| book.members(*user).contains(row);
             assert!(row == &pair || parts.rows.iter().any(held));

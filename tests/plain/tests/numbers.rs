@@ -19,12 +19,7 @@ fn k() -> Book {
         book.add_spec(1, COOL, &[1], &[TEMP], 1),
         book.add_spec(2, HOLD, &[2], &[TEMP | COOL], 2),
         book.add_spec(3, HOLD, &[3], &[0], 3),
-        book.add_sys(
-            3,
-            &[2, 0, 1],
-            &[3],
-            &[vec![(2, LEFT_OUT), (0, LEFT_OUT), (1, LEFT_OUT)]],
-        ),
+        book.add_sys(3, &[2, 0, 1], &[3], &[vec![(2, LEFT_OUT), (0, LEFT_OUT), (1, LEFT_OUT)]]),
     ];
     assert_eq!(answers, [Ok(()); 5]);
     book
@@ -59,9 +54,7 @@ fn numbers_below_their_limits() {
     check(1, |book| book.add_sys(3, &[0], &[64], &[of(&[0])]));
     check(1, |book| book.add_sys(3, &[0], &[3], &[of(&[32])]));
     check(1, |book| book.add_sys(3, &[0], &[3], &[vec![(0, 64)]]));
-    check(1, |book| {
-        book.add_sys(3, &[0], &[3], &[vec![(0, LEFT_OUT - 1)]])
-    });
+    check(1, |book| book.add_sys(3, &[0], &[3], &[vec![(0, LEFT_OUT - 1)]]));
     check(1, |book| book.add_modvar(0, 1, 0, 256));
     check(1, |book| book.add_modvar(0, 64, 0, 0));
     check(1, |book| book.add_modvar(32, 1, 0, 0));
@@ -102,9 +95,7 @@ fn lists_that_are_empty() {
     check(2, |book| book.add_spec(4, 0, &[], &[], 0));
     check(2, |book| book.add_mod(4, &[], &[]));
     check(2, |book| book.add_sys(4, &[], &[], &[]));
-    check(2, |book| {
-        book.add_sys(4, &[0, 0], &[5, 5], &[of(&[0]), vec![]])
-    });
+    check(2, |book| book.add_sys(4, &[0, 0], &[5, 5], &[of(&[0]), vec![]]));
     check(2, |book| book.add_sysvar(4, 0, &[]));
 }
 
@@ -112,13 +103,9 @@ fn lists_that_are_empty() {
 fn lists_with_a_number_twice() {
     check(3, |book| book.add_spec(0, 0, &[5, 5], &[0, 0], 5));
     check(3, |book| book.add_mod(9, &[5, 5], &[0, 0]));
-    check(3, |book| {
-        book.add_sys(9, &[0], &[5, 5], &[of(&[0]), of(&[0])])
-    });
+    check(3, |book| book.add_sys(9, &[0], &[5, 5], &[of(&[0]), of(&[0])]));
     check(3, |book| book.add_sys(9, &[0, 0], &[5], &[of(&[0])]));
-    check(3, |book| {
-        book.add_sys(9, &[0], &[5], &[vec![(0, 0), (0, LEFT_OUT)]])
-    });
+    check(3, |book| book.add_sys(9, &[0], &[5], &[vec![(0, 0), (0, LEFT_OUT)]]));
     check(3, |book| book.add_sysvar(9, 0, &[(0, 0), (0, 1)]));
 }
 
@@ -192,10 +179,7 @@ fn versions_of_systems() {
     assert_eq!(book.add_sysvar(3, 16, &of(&[2])), Err(11));
     assert_eq!(book.add_sysvar(3, 17, &of(&[2])), Err(12));
     assert_eq!(book.add_spec(4, HOLD, &[0], &[0], 0), Ok(()));
-    assert_eq!(
-        book.add_sys(4, &[3, 0], &[0], &[vec![(3, 12), (0, 0)]]),
-        Ok(())
-    );
+    assert_eq!(book.add_sys(4, &[3, 0], &[0], &[vec![(3, 12), (0, 0)]]), Ok(()));
     assert_eq!(book.del_sysvar(3, 12), Err(18));
     assert_eq!(book.del_sysvar(3, 11), Ok(()));
     assert_eq!(book.needs(4, 0), Ok(facilities(TEMP | COOL)));
@@ -210,28 +194,17 @@ const CHANGES: [Change; 26] = [
         let specification = book.specifications[&0].clone();
         book.specifications.insert(32, specification);
     }),
-    ("a facility provided", |book| {
-        change_spec(book, 2, |s| s.provides.insert(64))
-    }),
+    ("a facility provided", |book| change_spec(book, 2, |s| s.provides.insert(64))),
     ("a facility required", |book| {
         change_spec(book, 2, |s| s.versions.insert(0, [64].into()).is_none())
     }),
-    ("a version", |book| {
-        change_spec(book, 2, |s| s.versions.insert(64, [].into()).is_none())
-    }),
-    ("an implementation", |book| {
-        drop(book.modules.insert(2, [(2, 256)].into()))
-    }),
-    ("a usable component", |book| {
-        change_system(book, |s| s.usable.insert(32))
-    }),
-    ("no version", |book| {
-        change_spec(book, 2, |s| s.versions.remove(&2).is_some())
-    }),
+    ("a version", |book| change_spec(book, 2, |s| s.versions.insert(64, [].into()).is_none())),
+    ("an implementation", |book| drop(book.modules.insert(2, [(2, 256)].into()))),
+    ("a usable component", |book| change_system(book, |s| s.usable.insert(32))),
+    ("no version", |book| change_spec(book, 2, |s| s.versions.remove(&2).is_some())),
     ("nine versions", |book| {
         change_spec(book, 2, |s| {
-            s.versions
-                .extend((10..18).map(|version| (version, [].into())));
+            s.versions.extend((10..18).map(|version| (version, [].into())));
             true
         });
     }),
@@ -244,25 +217,15 @@ const CHANGES: [Change; 26] = [
             true
         })
     }),
-    ("B2, a module unspecified", |book| {
-        drop(book.modules.insert(9, [(2, 0)].into()))
-    }),
+    ("B2, a module unspecified", |book| drop(book.modules.insert(9, [(2, 0)].into()))),
     ("B2, a system unspecified", |book| {
         let system = book.systems[&3].clone();
         book.systems.insert(9, system);
     }),
-    ("B2, usable unspecified", |book| {
-        change_system(book, |s| s.usable.insert(9))
-    }),
-    ("B2, module and system", |book| {
-        drop(book.modules.insert(3, [(3, 0)].into()))
-    }),
-    ("B2, a module's versions", |book| {
-        drop(book.modules.insert(0, [(0, 0), (1, 0)].into()))
-    }),
-    ("B2, a module without version", |book| {
-        drop(book.modules.insert(0, [].into()))
-    }),
+    ("B2, usable unspecified", |book| change_system(book, |s| s.usable.insert(9))),
+    ("B2, module and system", |book| drop(book.modules.insert(3, [(3, 0)].into()))),
+    ("B2, a module's versions", |book| drop(book.modules.insert(0, [(0, 0), (1, 0)].into()))),
+    ("B2, a module without version", |book| drop(book.modules.insert(0, [].into()))),
     ("B2, a system's versions", |book| {
         change_spec(book, 3, |s| s.versions.insert(9, [].into()).is_none())
     }),
@@ -270,30 +233,18 @@ const CHANGES: [Change; 26] = [
         change_spec(book, 3, |s| s.versions.insert(3, [40].into()).is_some())
     }),
     ("B3", |book| change_spec(book, 3, |s| s.provides.insert(40))),
-    ("B4, itself", |book| {
-        change_system(book, |s| s.usable.insert(3))
-    }),
+    ("B4, itself", |book| change_system(book, |s| s.usable.insert(3))),
     ("B5, no member", |book| {
         change_system(book, |s| s.compositions.insert(3, [].into()).is_some())
     }),
-    ("B5, not usable", |book| {
-        change_system(book, |s| s.usable.remove(&1))
-    }),
+    ("B5, not usable", |book| change_system(book, |s| s.usable.remove(&1))),
     ("B5, a version", |book| {
-        change_system(book, |s| {
-            s.compositions
-                .insert(3, [(2, 2), (0, 0), (1, 2)].into())
-                .is_some()
-        })
+        change_system(book, |s| s.compositions.insert(3, [(2, 2), (0, 0), (1, 2)].into()).is_some())
     }),
     ("B6", |book| change_spec(book, 1, |s| s.provides.insert(2))),
-    ("B7", |book| {
-        change_spec(book, 2, |s| s.versions.insert(2, [0].into()).is_some())
-    }),
+    ("B7", |book| change_spec(book, 2, |s| s.versions.insert(2, [0].into()).is_some())),
     ("B9", |book| {
-        change_system(book, |s| {
-            s.compositions.insert(3, [(2, 2), (0, 0)].into()).is_some()
-        })
+        change_system(book, |s| s.compositions.insert(3, [(2, 2), (0, 0)].into()).is_some())
     }),
 ];
 
@@ -310,50 +261,28 @@ fn change_system(book: &mut Book, change: fn(&mut plain::book::System) -> bool) 
     assert!(book.systems.get_mut(&3).is_some_and(change));
 }
 
+/// A call of each command, with a number that is not below its limit.
+const CALLS: [Call; 10] = [
+    Call::DelSpec(99),
+    Call::DelMod(99),
+    Call::DelSys(99),
+    Call::DelModvar(99, 99),
+    Call::DelSysvar(99, 99),
+    Call::AddSysvar { component: 99, version: 99, composition: vec![] },
+    Call::AddModvar { component: 99, version: 99, requires: 0, implementation: 999 },
+    Call::AddSpec { component: 99, provides: 0, versions: vec![], requires: vec![], standard: 99 },
+    Call::AddMod { component: 99, versions: vec![], implementations: vec![] },
+    Call::AddSys { component: 99, usable: vec![], versions: vec![], compositions: vec![] },
+];
+
 /// Every call on a book that is not sound: 25 comes before 1.
 #[test]
 fn books_from_anywhere() {
-    let calls = [
-        Call::DelSpec(99),
-        Call::DelMod(99),
-        Call::DelSys(99),
-        Call::DelModvar(99, 99),
-        Call::DelSysvar(99, 99),
-        Call::AddSysvar {
-            component: 99,
-            version: 99,
-            composition: vec![],
-        },
-        Call::AddModvar {
-            component: 99,
-            version: 99,
-            requires: 0,
-            implementation: 999,
-        },
-        Call::AddSpec {
-            component: 99,
-            provides: 0,
-            versions: vec![],
-            requires: vec![],
-            standard: 99,
-        },
-        Call::AddMod {
-            component: 99,
-            versions: vec![],
-            implementations: vec![],
-        },
-        Call::AddSys {
-            component: 99,
-            usable: vec![],
-            versions: vec![],
-            compositions: vec![],
-        },
-    ];
     for (word, change) in CHANGES {
         let mut book = k();
         change(&mut book);
         let before = book.clone();
-        for call in &calls {
+        for call in CALLS {
             assert_eq!(call.perform(&mut book), Err(25), "{word}");
         }
         assert_eq!(book, before);
@@ -366,7 +295,7 @@ fn books_from_anywhere() {
         assert_eq!(book.whereused(99), Err(25), "{word}");
         assert_eq!(book.parts(99, 99, 0), Err(25), "{word}");
     }
-    for call in &calls {
+    for call in CALLS {
         assert_eq!(call.perform(&mut k()), Err(1));
     }
 }
@@ -394,9 +323,7 @@ fn rules_one_by_one() {
         }
     }
     let mut book = k();
-    change_system(&mut book, |s| {
-        s.compositions.insert(3, [(0, 0)].into()).is_some()
-    });
+    change_system(&mut book, |s| s.compositions.insert(3, [(0, 0)].into()).is_some());
     assert!(!book.b8());
 }
 
@@ -409,16 +336,10 @@ fn slices_for_rows() {
     assert_eq!(book.choice(SPARE, 0), Ok(vec![]));
     let parts = book.parts(3, 3, 4);
     assert_eq!(parts.as_ref().map(|p| p.depth), Ok(2));
-    assert_eq!(
-        parts.map(|p| p.rows),
-        Ok(vec![(0, 0), (1, 1), (2, 2), (3, 3)])
-    );
+    assert_eq!(parts.map(|p| p.rows), Ok(vec![(0, 0), (1, 1), (2, 2), (3, 3)]));
     assert_eq!(book.parts(3, 3, 3), Err(22));
     assert_eq!(book.parts(0, 0, 0), Err(22));
-    assert_eq!(
-        book.parts(0, 0, 1).map(|p| (p.rows, p.depth)),
-        Ok((vec![(0, 0)], 1))
-    );
+    assert_eq!(book.parts(0, 0, 1).map(|p| (p.rows, p.depth)), Ok((vec![(0, 0)], 1)));
 }
 
 #[test]

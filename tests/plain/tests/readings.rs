@@ -22,18 +22,9 @@ fn names_have_at_most_32_bytes() {
     let name = "n".repeat(32);
     check(&format!("supplies {name}"), "1,4\n");
     check(&format!("supplies {name}n"), "1,23\n");
-    check(
-        &format!("{A}mod a; v impl \"{name}\"; w impl \"./-_\" end"),
-        "1,0\n2,0\n",
-    );
-    check(
-        &format!("{A}mod a; v impl \"{name}n\"; w impl \"x\" end"),
-        "1,0\n2,23\n",
-    );
-    check(
-        &format!("{A}mod a; v impl \"\"; w impl \"x\" end"),
-        "1,0\n2,23\n",
-    );
+    check(&format!("{A}mod a; v impl \"{name}\"; w impl \"./-_\" end"), "1,0\n2,0\n");
+    check(&format!("{A}mod a; v impl \"{name}n\"; w impl \"x\" end"), "1,0\n2,23\n");
+    check(&format!("{A}mod a; v impl \"\"; w impl \"x\" end"), "1,0\n2,23\n");
     check("undefinedundefined", "1,23\n");
 }
 
@@ -52,14 +43,8 @@ fn keywords_are_no_names() {
         check(&format!("spec a provides ; std {word} end"), "1,23\n");
     }
     check("in", "1,23\n");
-    check(
-        "supplies In supplies END supplies all-off",
-        "1,4\n2,4\n3,4\n",
-    );
-    check(
-        "spec a provides ; std v end mod a; v impl \"end\" end",
-        "1,0\n2,0\n",
-    );
+    check("supplies In supplies END supplies all-off", "1,4\n2,4\n3,4\n");
+    check("spec a provides ; std v end mod a; v impl \"end\" end", "1,0\n2,0\n");
 }
 
 #[test]
@@ -75,15 +60,7 @@ fn a_command_ends_with_its_last_token() {
 
 #[test]
 fn text_may_end_between_commands_only() {
-    for text in [
-        "spec",
-        "spec a provides",
-        "needs a",
-        "needs a.",
-        "choice",
-        "choice f",
-        "mod a;",
-    ] {
+    for text in ["spec", "spec a provides", "needs a", "needs a.", "choice", "choice f", "mod a;"] {
         check(text, "1,23\n");
     }
     check("", "");
@@ -114,20 +91,11 @@ fn other_bytes() {
 #[test]
 fn spaces_and_comments_between_tokens() {
     check(&format!("{A}needs a {{x}} . {{y}}\n w"), "1,0\n2,0\n2,g\n");
-    check(
-        "spec a provides;std v end mod a;v impl\"x\"end",
-        "1,0\n2,0\n",
-    );
+    check("spec a provides;std v end mod a;v impl\"x\"end", "1,0\n2,0\n");
     check("unused{}unused", "1,0\n2,0\n");
     check("un{}used", "1,23\n");
-    check(
-        "spec a provides ; std v end mod a; v impl \"x y\" end",
-        "1,0\n2,23\n",
-    );
-    check(
-        "spec a provides ; std v end mod a; v impl \"{}\" end",
-        "1,0\n2,23\n",
-    );
+    check("spec a provides ; std v end mod a; v impl \"x y\" end", "1,0\n2,23\n");
+    check("spec a provides ; std v end mod a; v impl \"{}\" end", "1,0\n2,23\n");
 }
 
 #[test]
@@ -178,9 +146,7 @@ fn a_refused_command_names_nothing() {
 
 /// Specs of so many components, and the rows that accept them.
 fn components(count: usize) -> (String, String) {
-    let specs: String = (0..count)
-        .map(|n| format!("spec c{n} provides ; std v end\n"))
-        .collect();
+    let specs: String = (0..count).map(|n| format!("spec c{n} provides ; std v end\n")).collect();
     let rows: String = (1..=count).map(|n| format!("{n},0\n")).collect();
     (specs, rows)
 }
@@ -247,10 +213,7 @@ fn names_in_no_table() {
     check(text, "1,4\n2,4\n3,4\n4,4\n5,4\n6,4\n7,6\n8,6\n9,7\n10,7\n");
     let text = "needs a.x parts a.x delmodvar a.x delsysvar a.x
         mod a; v impl \"i\"; w impl \"i\" end delmodvar a.x delsysvar a.x";
-    check(
-        &format!("{A}{text}"),
-        "1,0\n2,10\n3,10\n4,6\n5,7\n6,0\n7,10\n8,7\n",
-    );
+    check(&format!("{A}{text}"), "1,0\n2,10\n3,10\n4,6\n5,7\n6,0\n7,10\n8,7\n");
     let text = "spec s provides f; std v end sys s use a; v = a end delsysvar s.x delmodvar s.x";
     check(&format!("{A}{text}"), "1,0\n2,0\n3,0\n4,10\n5,6\n");
     check(
@@ -264,10 +227,7 @@ fn names_in_no_table() {
 fn names_of_deleted_components() {
     let text = "delspec a supplies a needs a.v delmod a delsys a choice f end
         spec b provides f; std w; v end choice f end";
-    check(
-        &format!("{A}{text}"),
-        "1,0\n2,0\n3,4\n4,4\n5,6\n6,7\n7,0\n8,0\n9,0\n9,b,v\n9,b,w\n",
-    );
+    check(&format!("{A}{text}"), "1,0\n2,0\n3,4\n4,4\n5,6\n6,7\n7,0\n8,0\n9,0\n9,b,v\n9,b,w\n");
 }
 
 #[test]
@@ -324,33 +284,18 @@ mod loop; a impl \"y\"; p impl \"x\" end
 fn a_left_out_version_is_the_standard_one() {
     let text = "spec m provides f; n; std o end spec s provides f; std v end
         sys s use m; v = m end parts s.v sysvar s.w = m.n end parts s.w";
-    check(
-        text,
-        "1,0\n2,0\n3,0\n4,0\n4,m,o\n4,s,v\n5,0\n6,0\n6,m,n\n6,s,w\n",
-    );
+    check(text, "1,0\n2,0\n3,0\n4,0\n4,m,o\n4,s,v\n5,0\n6,0\n6,m,n\n6,s,w\n");
 }
 
 #[test]
 fn members_that_do_not_fit() {
     let base = "spec m provides f; std v end spec s provides f; std v end\n";
     // Not specified, in no usable list, a version that it has not.
-    check(
-        &format!("{base}sys s use m; v = m, x end"),
-        "1,0\n2,0\n3,21\n",
-    );
-    check(
-        &format!("{base}sys s use m; v = m, x.y end"),
-        "1,0\n2,0\n3,21\n",
-    );
-    check(
-        &format!("{base}sys s use m; v = m.x end"),
-        "1,0\n2,0\n3,21\n",
-    );
+    check(&format!("{base}sys s use m; v = m, x end"), "1,0\n2,0\n3,21\n");
+    check(&format!("{base}sys s use m; v = m, x.y end"), "1,0\n2,0\n3,21\n");
+    check(&format!("{base}sys s use m; v = m.x end"), "1,0\n2,0\n3,21\n");
     check(&format!("{base}sys s use m; v = s end"), "1,0\n2,0\n3,21\n");
-    check(
-        &format!("{base}sys s use m, x; v = m, x end"),
-        "1,0\n2,0\n3,17\n",
-    );
+    check(&format!("{base}sys s use m, x; v = m, x end"), "1,0\n2,0\n3,17\n");
     check(&format!("{base}sys s use s; v = x end"), "1,0\n2,0\n3,20\n");
     let empty = "spec e provides ; std v end sys s use e; v = x end";
     check(&format!("{base}{empty}"), "1,0\n2,0\n3,0\n4,19\n");
@@ -367,10 +312,7 @@ fn b7_counts_own_needs() {
         spec top provides x; std v end
         sys top use m, low; v = m, low end
         needs top.v";
-    check(
-        text,
-        "1,0\n2,0\n3,0\n4,0\n5,0\n6,0\n7,0\n8,0\n8,temp\n8,hold\n",
-    );
+    check(text, "1,0\n2,0\n3,0\n4,0\n5,0\n6,0\n7,0\n8,0\n8,temp\n8,hold\n");
 }
 
 #[test]
@@ -389,22 +331,10 @@ fn rules_of_compositions() {
     check(&format!("{base}sys s use a, d; v = a end"), &accepted);
     let base = format!("{base}delspec s spec s provides f, g; std v end ");
     let rows = format!("{rows}6,0\n7,0\n");
-    check(
-        &format!("{base}sys s use a, c, d; v = a, c end"),
-        &format!("{rows}8,21\n"),
-    );
-    check(
-        &format!("{base}sys s use a, c, d; v = a, c, d end"),
-        &format!("{rows}8,0\n"),
-    );
-    check(
-        &format!("{base}sys s use a, c; v = a, c end"),
-        &format!("{rows}8,0\n"),
-    );
-    check(
-        &format!("{base}sys s use b, d; v = b end"),
-        &format!("{rows}8,0\n"),
-    );
+    check(&format!("{base}sys s use a, c, d; v = a, c end"), &format!("{rows}8,21\n"));
+    check(&format!("{base}sys s use a, c, d; v = a, c, d end"), &format!("{rows}8,0\n"));
+    check(&format!("{base}sys s use a, c; v = a, c end"), &format!("{rows}8,0\n"));
+    check(&format!("{base}sys s use b, d; v = b end"), &format!("{rows}8,0\n"));
 }
 
 #[test]

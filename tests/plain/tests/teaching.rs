@@ -18,9 +18,7 @@ fn listing(text: &str) -> String {
 fn after_k(text: &str) -> String {
     let rows = listing(&format!("{K}{text}"));
     let accepted = "1,0\n2,0\n3,0\n4,0\n5,0\n";
-    rows.strip_prefix(accepted)
-        .unwrap_or("K is refused")
-        .to_string()
+    rows.strip_prefix(accepted).unwrap_or("K is refused").to_string()
 }
 
 #[test]
@@ -104,10 +102,7 @@ fn k10_room() {
     assert_eq!(after_k(&format!("{ROOM}parts room.q")), expected);
     let outcome = session(format!("{K}{ROOM}").as_bytes(), usize::MAX);
     // room is component 4, q version 4: probe one, valve v2, loop p, tank a, room q.
-    let parts = outcome
-        .book
-        .parts(4, 4, 5)
-        .map(|parts| (parts.rows.len(), parts.depth));
+    let parts = outcome.book.parts(4, 4, 5).map(|parts| (parts.rows.len(), parts.depth));
     assert_eq!(parts, Ok((5, 3)));
     assert_eq!(outcome.book.parts(4, 4, 4), Err(22));
 }
@@ -119,10 +114,7 @@ fn k11_delsys() {
 
 #[test]
 fn k12_own_facility() {
-    assert_eq!(
-        after_k("spec x provides temp; std v requires temp end"),
-        "6,13\n"
-    );
+    assert_eq!(after_k("spec x provides temp; std v requires temp end"), "6,13\n");
 }
 
 /// "testing only the new system in ADD-SYS, though a system above may use it already"

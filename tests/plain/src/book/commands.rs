@@ -25,14 +25,32 @@ fn below(numbers: &[Number], limit: Number) -> bool {
 
 /// "Is each number below its limit?", for members; a version may be left out.
 fn members_below(composition: &[Pair]) -> bool {
-    composition
-        .iter()
-        .all(|(c, v)| *c < COMPONENTS && (*v < VERSIONS || *v == LEFT_OUT))
+    composition.iter().all(|(c, v)| *c < COMPONENTS && (*v < VERSIONS || *v == LEFT_OUT))
 }
 
 /// "Is each number below its limit?", for a component with a version.
 fn pair_below(component: Number, version: Number) -> bool {
     component < COMPONENTS && version < VERSIONS
+}
+
+/// Questions 1 to 3 of ADD-SYS for its lists; a usable list may be empty.
+fn ask_system_lists(usable: &[Number], versions: &[Number], compositions: &[Vec<Pair>]) -> Answer {
+    let mut composed = compositions.iter();
+    ask(
+        below(usable, COMPONENTS)
+            && below(versions, VERSIONS)
+            && composed.all(|composition| members_below(composition))
+            && versions.len() == compositions.len(),
+        1,
+    )?;
+    ask(!versions.is_empty() && !compositions.iter().any(Vec::is_empty), 2)?;
+    let mut composed = compositions.iter();
+    ask(
+        each_once(versions.iter().copied())
+            && each_once(usable.iter().copied())
+            && composed.all(|composition| each_once(components(composition))),
+        3,
+    )
 }
 
 impl Book {
@@ -86,10 +104,7 @@ impl Book {
         ask(!versions.is_empty(), 2)?;
         ask(each_once(versions.iter().copied()), 3)?;
         self.can_be_defined(component, versions)?;
-        let module = versions
-            .iter()
-            .copied()
-            .zip(implementations.iter().copied());
+        let module = versions.iter().copied().zip(implementations.iter().copied());
         self.modules.insert(component, module.collect());
         Ok(())
     }
@@ -114,38 +129,15 @@ impl Book {
         compositions: &[Vec<Pair>],
     ) -> Answer {
         ask(self.is_sound(), 25)?;
-        ask(
-            component < COMPONENTS
-                && below(usable, COMPONENTS)
-                && below(versions, VERSIONS)
-                && compositions
-                    .iter()
-                    .all(|composition| members_below(composition))
-                && versions.len() == compositions.len(),
-            1,
-        )?;
-        ask(
-            !versions.is_empty() && !compositions.iter().any(Vec::is_empty),
-            2,
-        )?;
-        ask(
-            each_once(versions.iter().copied())
-                && each_once(usable.iter().copied())
-                && compositions
-                    .iter()
-                    .all(|composition| each_once(components(composition))),
-            3,
-        )?;
+        ask(component < COMPONENTS, 1)?;
+        ask_system_lists(usable, versions, compositions)?;
         self.can_be_defined(component, versions)?;
         ask(self.requires_nothing(component), 16)?;
         ask(usable.iter().all(|usable| self.is_specified(*usable)), 17)?;
+        let filled = compositions.iter().map(|composition| self.filled(composition));
         let system = System {
             usable: usable.iter().copied().collect(),
-            compositions: versions
-                .iter()
-                .zip(compositions)
-                .map(|(version, composition)| (*version, self.filled(composition)))
-                .collect(),
+            compositions: versions.iter().copied().zip(filled).collect(),
         };
         let mut after = self.clone();
         after.systems.insert(component, system);
@@ -181,10 +173,7 @@ impl Book {
         ask(component < COMPONENTS, 1)?;
         ask(self.is_specified(component), 4)?;
         let mut systems = self.systems.values();
-        ask(
-            systems.all(|system| !system.usable.contains(&component)),
-            18,
-        )?;
+        ask(systems.all(|system| !system.usable.contains(&component)), 18)?;
         self.specifications.remove(&component);
         self.modules.remove(&component);
         self.systems.remove(&component);
@@ -222,10 +211,7 @@ impl Book {
         implementation: Number,
     ) -> Answer {
         ask(self.is_sound(), 25)?;
-        ask(
-            pair_below(component, version) && implementation < IMPLEMENTATIONS,
-            1,
-        )?;
+        ask(pair_below(component, version) && implementation < IMPLEMENTATIONS, 1)?;
         ask(self.is_module(component), 6)?;
         ask(!self.has_version(component, version), 11)?;
         ask(self.version_count(component) < MOST_VERSIONS, 12)?;
@@ -248,10 +234,7 @@ impl Book {
         composition: &[Pair],
     ) -> Answer {
         ask(self.is_sound(), 25)?;
-        ask(
-            pair_below(component, version) && members_below(composition),
-            1,
-        )?;
+        ask(pair_below(component, version) && members_below(composition), 1)?;
         ask(!composition.is_empty(), 2)?;
         ask(each_once(components(composition)), 3)?;
         ask(self.is_system(component), 7)?;
@@ -262,9 +245,7 @@ impl Book {
             specification.versions.insert(version, BTreeSet::new());
         }
         if let Some(system) = after.systems.get_mut(&component) {
-            system
-                .compositions
-                .insert(version, self.filled(composition));
+            system.compositions.insert(version, self.filled(composition));
         }
         ask(after.b5_to_b9(), 21)?;
         *self = after;
@@ -297,10 +278,7 @@ impl Book {
         ask(self.has_version(component, version), 10)?;
         ask(self.standard_of(component) != Some(version), 15)?;
         let mut composed = self.composed();
-        ask(
-            composed.all(|composed| composed.composition.get(&component) != Some(&version)),
-            18,
-        )
+        ask(composed.all(|composed| composed.composition.get(&component) != Some(&version)), 18)
     }
 
     fn take_out(&mut self, component: Number, version: Number) {

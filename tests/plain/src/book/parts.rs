@@ -46,9 +46,7 @@ impl Book {
     fn in_order(&self, mut open: BTreeSet<Pair>) -> Vec<Pair> {
         let mut rows = Vec::new();
         let ready = |pair: &Pair, open: &BTreeSet<Pair>| {
-            self.members(*pair)
-                .iter()
-                .all(|member| !open.contains(member))
+            self.members(*pair).iter().all(|member| !open.contains(member))
         };
         while let Some(next) = open.iter().copied().find(|pair| ready(pair, &open)) {
             open.remove(&next);

@@ -56,23 +56,16 @@ impl Book {
     pub fn undefined(&self) -> Result<BTreeSet<Number>, Number> {
         ask(self.is_sound(), 25)?;
         let specified = self.specifications.keys().copied();
-        Ok(specified
-            .filter(|component| !self.is_defined(*component))
-            .collect())
+        Ok(specified.filter(|component| !self.is_defined(*component)).collect())
     }
 
     /// UNUSED, line 20.1: the modules that are usable in no system.
     pub fn unused(&self) -> Result<BTreeSet<Number>, Number> {
         ask(self.is_sound(), 25)?;
-        let usable: BTreeSet<Number> = self
-            .systems
-            .values()
-            .flat_map(|system| system.usable.iter().copied())
-            .collect();
+        let usable: BTreeSet<Number> =
+            self.systems.values().flat_map(|system| system.usable.iter().copied()).collect();
         let modules = self.modules.keys().copied();
-        Ok(modules
-            .filter(|component| !usable.contains(component))
-            .collect())
+        Ok(modules.filter(|component| !usable.contains(component)).collect())
     }
 
     /// WHEREUSED, lines 21.2 to 21.6: "follows usable lists, not compositions."

@@ -34,9 +34,7 @@ impl Generator {
 
     pub(super) fn undefined(&self) -> Vec<Number> {
         let specified = self.specified().into_iter();
-        specified
-            .filter(|component| !self.book().is_defined(*component))
-            .collect()
+        specified.filter(|component| !self.book().is_defined(*component)).collect()
     }
 
     pub(super) fn versions_of(&self, component: Number) -> Vec<Number> {
@@ -76,10 +74,7 @@ impl Generator {
 
     /// Facilities of the pool outside others, sometimes a new one.
     pub(super) fn some_facilities(&mut self, most: usize, outside: &[String]) -> Vec<String> {
-        let pool = self
-            .facilities
-            .iter()
-            .filter(|name| !outside.contains(name));
+        let pool = self.facilities.iter().filter(|name| !outside.contains(name));
         let pool: Vec<String> = pool.cloned().collect();
         let mut names = self.random.some(&pool, most);
         if most > 0 && self.random.chance(self.fresh) {
@@ -159,9 +154,7 @@ impl Generator {
                     && (!provides.is_disjoint(&open) || (wanted.is_empty() && members.is_empty()))
             };
             let choices: Vec<Number> = candidates.iter().filter(fits).copied().collect();
-            let systems = choices
-                .iter()
-                .filter(|component| self.book().is_system(**component));
+            let systems = choices.iter().filter(|component| self.book().is_system(**component));
             let systems: Vec<Number> = systems.copied().collect();
             let prefer = !systems.is_empty() && self.random.chance(60);
             let Some(member) = self.random.pick(if prefer { &systems } else { &choices }) else {
@@ -215,10 +208,7 @@ impl Generator {
         let usable = self.random.some(&usable, usable.len());
         SysPlan {
             component: component.to_string(),
-            usable: usable
-                .iter()
-                .map(|usable| self.component_name(*usable))
-                .collect(),
+            usable: usable.iter().map(|usable| self.component_name(*usable)).collect(),
             compositions,
         }
     }
@@ -247,14 +237,8 @@ impl Generator {
         let names = self.random.some(&self.versions.clone(), count);
         let spec = SpecPlan {
             component: component.clone(),
-            provides: target
-                .iter()
-                .map(|facility| self.facility_name(*facility))
-                .collect(),
-            versions: names
-                .iter()
-                .map(|name| (name.clone(), Vec::new()))
-                .collect(),
+            provides: target.iter().map(|facility| self.facility_name(*facility)).collect(),
+            versions: names.iter().map(|name| (name.clone(), Vec::new())).collect(),
             standard: self.random.below(names.len()),
         };
         if specified.is_empty() || !self.emit_accepted(&spec.text()) {
@@ -271,18 +255,15 @@ impl Generator {
     /// The undefined components that may become systems.
     pub(super) fn system_candidates(&self) -> Vec<Number> {
         let undefined = self.undefined().into_iter();
-        undefined
-            .filter(|component| self.requires_nothing(*component))
-            .collect()
+        undefined.filter(|component| self.requires_nothing(*component)).collect()
     }
 
     /// A plan for a component that is specified already.
     pub(super) fn plan_system_for(&mut self, component: Number) -> SysPlan {
         let above = self.book().whereused(component).unwrap_or_default();
         let specified = self.specified().into_iter();
-        let candidates: Vec<Number> = specified
-            .filter(|other| *other != component && !above.contains(other))
-            .collect();
+        let candidates: Vec<Number> =
+            specified.filter(|other| *other != component && !above.contains(other)).collect();
         let versions = self.versions_of(component);
         let versions: Vec<String> = versions.iter().map(|v| self.version_name(*v)).collect();
         let target = self.book().provided_by(component);
@@ -306,9 +287,7 @@ impl Generator {
     /// One of the components, often the one with the most versions.
     pub(super) fn fat(&mut self, components: &[Number]) -> Option<Number> {
         if self.random.chance(40) {
-            let fattest = components
-                .iter()
-                .max_by_key(|c| self.versions_of(**c).len());
+            let fattest = components.iter().max_by_key(|c| self.versions_of(**c).len());
             return fattest.copied();
         }
         self.random.pick(components)
@@ -328,11 +307,7 @@ impl Generator {
         let most = self.random.below(3);
         let required = self.some_facilities(most, &provides);
         let (version, word) = (self.some_version(), self.some_implementation());
-        modvar_text(
-            (&self.component_name(component), &version),
-            &required,
-            &word,
-        )
+        modvar_text((&self.component_name(component), &version), &required, &word)
     }
 
     fn grow_sysvar(&mut self) {
@@ -349,11 +324,7 @@ impl Generator {
 
     /// A composition for a system that is defined already.
     pub(super) fn plan_composition(&mut self, component: Number) -> Vec<PlannedMember> {
-        let usable = self
-            .book()
-            .systems
-            .get(&component)
-            .map(|system| &system.usable);
+        let usable = self.book().systems.get(&component).map(|system| &system.usable);
         let usable: Vec<Number> = usable.into_iter().flatten().copied().collect();
         let target = self.book().provided_by(component);
         let members = self.compose(&target, &usable);
@@ -362,9 +333,7 @@ impl Generator {
 
     /// Takes something out.
     fn shrink(&mut self) {
-        let word = self
-            .random
-            .pick(&["delspec", "delmod", "delsys", "delmodvar", "delsysvar"]);
+        let word = self.random.pick(&["delspec", "delmod", "delsys", "delmodvar", "delsysvar"]);
         let word = word.unwrap_or("delmod");
         let among = match word {
             "delspec" => self.specified(),
@@ -393,11 +362,7 @@ impl Generator {
         }
         let pairs: Vec<Pair> = self.book().pairs().collect();
         let systems = self.systems();
-        let deep: Vec<Pair> = pairs
-            .iter()
-            .filter(|p| systems.contains(&p.0))
-            .copied()
-            .collect();
+        let deep: Vec<Pair> = pairs.iter().filter(|p| systems.contains(&p.0)).copied().collect();
         let among = if self.random.chance(60) { deep } else { pairs };
         let Some((component, version)) = self.random.pick(&among) else {
             return;

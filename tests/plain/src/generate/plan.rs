@@ -45,18 +45,12 @@ pub fn members_text(members: &[PlannedMember]) -> String {
 /// A modvar command.
 pub fn modvar_text(pair: (&str, &str), required: &[String], implementation: &str) -> String {
     let (component, version) = pair;
-    format!(
-        "modvar {component} . {version} {} impl {implementation}",
-        requires(required)
-    )
+    format!("modvar {component} . {version} {} impl {implementation}", requires(required))
 }
 
 /// A sysvar command.
 pub fn sysvar_text(component: &str, version: &str, members: &[PlannedMember]) -> String {
-    format!(
-        "sysvar {component} . {version} = {} end",
-        members_text(members)
-    )
+    format!("sysvar {component} . {version} = {} end", members_text(members))
 }
 
 impl SpecPlan {
@@ -67,10 +61,7 @@ impl SpecPlan {
         };
         let versions: Vec<String> = self.versions.iter().enumerate().map(version).collect();
         let (component, provides) = (&self.component, self.provides.join(" , "));
-        format!(
-            "spec {component} provides {provides} ; {} end",
-            versions.join(" ; ")
-        )
+        format!("spec {component} provides {provides} ; {} end", versions.join(" ; "))
     }
 }
 
@@ -89,9 +80,6 @@ impl SysPlan {
         };
         let composed: Vec<String> = self.compositions.iter().map(composition).collect();
         let (component, usable) = (&self.component, self.usable.join(" , "));
-        format!(
-            "sys {component} use {usable} ; {} end",
-            composed.join(" ; ")
-        )
+        format!("sys {component} use {usable} ; {} end", composed.join(" ; "))
     }
 }

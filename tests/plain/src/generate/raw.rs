@@ -1,21 +1,14 @@
 //! Raw calls of the ten commands.
 
 use super::Generator;
-use crate::book::{Number, COMPONENTS, FACILITIES, IMPLEMENTATIONS, LEFT_OUT, VERSIONS};
+use crate::book::{Number, Pair, COMPONENTS, FACILITIES, IMPLEMENTATIONS, LEFT_OUT, VERSIONS};
 use crate::calls::Call;
 use crate::language::{Command, Reader};
 use crate::random::Random;
 
 /// A number at or above the limit, or any below it.
 fn odd(random: &mut Random, limit: Number) -> Number {
-    let above = [
-        limit,
-        limit,
-        limit + 1,
-        limit + 31,
-        255.max(limit),
-        200.max(limit),
-    ];
+    let above = [limit, limit, limit + 1, limit + 31, 255.max(limit), 200.max(limit)];
     match random.below(3) {
         0 => random.below(limit as usize) as Number,
         _ => random.pick(&above).unwrap_or(limit),
@@ -35,88 +28,84 @@ fn spoil_list<T: Clone>(random: &mut Random, list: &mut Vec<T>, item: T) {
 
 /// Changes one number or one list of the call.
 fn spoil(random: &mut Random, call: &mut Call) {
-    let what = random.below(6);
     match call {
-        Call::AddSpec {
-            component,
-            provides,
-            versions,
-            requires,
-            standard,
-        } => match what {
-            0 => *component = odd(random, COMPONENTS),
-            1 => *provides = random.bits() & random.bits(),
-            2 => spoil_list(random, requires, random.clone().bits()),
-            3 => *standard = odd(random, VERSIONS),
-            4 => {
-                versions.clear();
-                requires.clear();
-            }
-            _ => {
-                let version = odd(random, VERSIONS);
-                versions.push(version);
-                requires.push(random.bits() & random.bits() & random.bits());
-            }
-        },
-        Call::AddMod {
-            component,
-            versions,
-            implementations,
-        } => match what {
-            0 => *component = odd(random, COMPONENTS),
-            1 => spoil_list(random, versions, VERSIONS),
-            2 => spoil_list(random, implementations, IMPLEMENTATIONS),
-            3 => {
-                versions.clear();
-                implementations.clear();
-            }
-            _ => {
-                versions.push(odd(random, VERSIONS));
-                implementations.push(odd(random, IMPLEMENTATIONS));
-            }
-        },
+        Call::AddSpec { .. } => spoil_spec(random, call),
+        Call::AddMod { .. } => spoil_module(random, call),
         Call::AddSys { .. } => spoil_system(random, call),
-        Call::AddModvar {
-            component,
-            version,
-            requires,
-            implementation,
-        } => match what {
+        Call::AddModvar { component, version, requires, implementation } => match random.below(5) {
             0 => *component = odd(random, COMPONENTS),
             1 => *version = odd(random, VERSIONS),
             2 => *implementation = odd(random, IMPLEMENTATIONS),
             _ => *requires = random.bits() & random.bits(),
         },
-        Call::AddSysvar {
-            component,
-            version,
-            composition,
-        } => match what {
+        Call::AddSysvar { component, version, composition } => match random.below(6) {
             0 => *component = odd(random, COMPONENTS),
             1 => *version = odd(random, VERSIONS),
-            _ => {
-                let member = (odd(random, COMPONENTS), odd(random, VERSIONS));
-                spoil_list(random, composition, member);
-            }
+            _ => spoil_composition(random, composition),
         },
         Call::DelSpec(component) | Call::DelMod(component) | Call::DelSys(component) => {
             *component = odd(random, COMPONENTS);
         }
-        Call::DelModvar(component, version) | Call::DelSysvar(component, version) => match what {
-            0..=2 => *component = odd(random, COMPONENTS),
-            _ => *version = odd(random, VERSIONS),
-        },
+        Call::DelModvar(component, version) | Call::DelSysvar(component, version) => {
+            match random.chance(50) {
+                true => *component = odd(random, COMPONENTS),
+                false => *version = odd(random, VERSIONS),
+            }
+        }
+    }
+}
+
+fn spoil_composition(random: &mut Random, composition: &mut Vec<Pair>) {
+    let version = match random.chance(50) {
+        true => LEFT_OUT,
+        false => odd(random, VERSIONS),
+    };
+    let member = (odd(random, COMPONENTS), version);
+    spoil_list(random, composition, member);
+}
+
+fn spoil_spec(random: &mut Random, call: &mut Call) {
+    let Call::AddSpec { component, provides, versions, requires, standard } = call else {
+        return;
+    };
+    match random.below(7) {
+        0 => *component = odd(random, COMPONENTS),
+        1 => *provides = random.bits() & random.bits(),
+        2 => spoil_list(random, requires, 0),
+        3 => spoil_list(random, versions, VERSIONS),
+        4 => *standard = odd(random, VERSIONS),
+        5 => {
+            versions.clear();
+            requires.clear();
+        }
+        _ => {
+            versions.push(odd(random, VERSIONS));
+            requires.push(random.bits() & random.bits() & random.bits());
+        }
+    }
+}
+
+fn spoil_module(random: &mut Random, call: &mut Call) {
+    let Call::AddMod { component, versions, implementations } = call else {
+        return;
+    };
+    match random.below(6) {
+        0 => *component = odd(random, COMPONENTS),
+        1 => spoil_list(random, versions, VERSIONS),
+        2 => spoil_list(random, implementations, IMPLEMENTATIONS),
+        3 => {
+            versions.clear();
+            implementations.clear();
+        }
+        _ => {
+            versions.push(odd(random, VERSIONS));
+            implementations.push(odd(random, IMPLEMENTATIONS));
+        }
     }
 }
 
 fn spoil_system(random: &mut Random, call: &mut Call) {
-    let Call::AddSys {
-        component,
-        usable,
-        versions,
-        compositions,
-    } = call
-    else {
+    let Call::AddSys { component, usable, versions, compositions } = call else {
         return;
     };
     match random.below(7) {
@@ -133,14 +122,9 @@ fn spoil_system(random: &mut Random, call: &mut Call) {
             compositions.clear();
         }
         _ => {
-            let version = match random.chance(50) {
-                true => LEFT_OUT,
-                false => odd(random, VERSIONS),
-            };
-            let member = (odd(random, COMPONENTS), version);
             let place = random.below(compositions.len());
             if let Some(composition) = compositions.get_mut(place) {
-                spoil_list(random, composition, member);
+                spoil_composition(random, composition);
             }
         }
     }
@@ -157,9 +141,7 @@ impl Generator {
             (&mut tables.implementations, IMPLEMENTATIONS),
         ];
         for (table, limit) in named {
-            table.places = (0..limit)
-                .map(|n| (n, format!("n{n}").into_bytes()))
-                .collect();
+            table.places = (0..limit).map(|n| (n, format!("n{n}").into_bytes())).collect();
         }
         let pool = |random: &mut Random, limit: Number, count: usize| -> Vec<String> {
             let all: Vec<String> = (0..limit).map(|n| format!("n{n}")).collect();
@@ -220,9 +202,6 @@ impl Generator {
             }
         }
         lines.truncate(count);
-        self.text = lines
-            .into_iter()
-            .flat_map(|line| (line + "\n").into_bytes())
-            .collect();
+        self.text = lines.into_iter().flat_map(|line| (line + "\n").into_bytes()).collect();
     }
 }

@@ -30,10 +30,7 @@ impl Generator {
                 Some(component) => self.component_name(component),
                 None => self.new_name(),
             },
-            7 | 8 => self
-                .random
-                .pick(&unspecified)
-                .unwrap_or_else(|| "none".to_string()),
+            7 | 8 => self.random.pick(&unspecified).unwrap_or_else(|| "none".to_string()),
             _ => self.new_name(),
         }
     }
@@ -87,9 +84,7 @@ impl Generator {
             }
             _ => {
                 let own = plan.provides.clone();
-                plan.versions
-                    .iter_mut()
-                    .for_each(|version| version.1.extend(own.clone()));
+                plan.versions.iter_mut().for_each(|version| version.1.extend(own.clone()));
             }
         }
         self.emit(&plan.text());
@@ -106,9 +101,7 @@ impl Generator {
             1 if plan.versions.len() > 1 => {
                 plan.versions.pop();
             }
-            _ => plan
-                .versions
-                .push((self.some_version(), self.some_implementation())),
+            _ => plan.versions.push((self.some_version(), self.some_implementation())),
         }
         self.emit(&plan.text());
     }
@@ -116,11 +109,7 @@ impl Generator {
     /// A definition for a component that has one, with its own versions.
     fn define_again(&mut self) {
         let (modules, systems) = (self.modules(), self.systems());
-        let among = if self.random.chance(50) {
-            modules
-        } else {
-            systems
-        };
+        let among = if self.random.chance(50) { modules } else { systems };
         let Some(component) = self.random.pick(&among) else {
             return;
         };
@@ -153,17 +142,14 @@ impl Generator {
             return;
         };
         let mut plan = self.plan_system_for(component);
-        plan.usable
-            .extend(plan.usable.is_empty().then(|| self.any_component()));
+        plan.usable.extend(plan.usable.is_empty().then(|| self.any_component()));
         self.fill_empty(&mut plan);
         match self.random.below(11) {
             0 => plan.usable.extend(plan.usable.first().cloned()),
             1 => plan.usable.push(self.new_name()),
             2 => plan.usable.truncate(1),
             3 => self.close_circle(component, &mut plan),
-            4 => plan
-                .compositions
-                .push((self.some_version(), plan.compositions[0].1.clone())),
+            4 => plan.compositions.push((self.some_version(), plan.compositions[0].1.clone())),
             5 => plan.compositions.extend(plan.compositions.first().cloned()),
             6 => plan.usable.extend(self.unspecified_names().pop()),
             _ => self.spoil_composition(&mut plan),
@@ -194,10 +180,7 @@ impl Generator {
             3 => members.extend(usable.map(|usable| (usable, None))),
             _ => {
                 let version = self.some_version();
-                members
-                    .iter_mut()
-                    .take(1)
-                    .for_each(|member| member.1 = Some(version.clone()));
+                members.iter_mut().take(1).for_each(|member| member.1 = Some(version.clone()));
             }
         }
     }
@@ -250,11 +233,8 @@ impl Generator {
         let mut held = pairs.clone();
         held.retain(|(component, version)| {
             let standard = self.book().standard_of(*component) == Some(*version);
-            let mut compositions = self
-                .book()
-                .systems
-                .values()
-                .flat_map(|system| system.compositions.values());
+            let mut compositions =
+                self.book().systems.values().flat_map(|system| system.compositions.values());
             !standard && compositions.any(|members| members.get(component) == Some(version))
         });
         let among = if self.random.chance(70) { held } else { pairs };

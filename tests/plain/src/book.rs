@@ -34,6 +34,8 @@ pub const MOST_VERSIONS: usize = 8;
 /// The mark of a member whose version is left out, above every limit.
 pub const LEFT_OUT: Number = Number::MAX;
 
+static NO_FACILITIES: Facilities = Facilities::new();
+
 /// The facilities that a component provides, its versions with the
 /// facilities that each requires, and one standard version.
 #[derive(Clone, Debug, PartialEq, Eq)]
@@ -140,11 +142,9 @@ impl Book {
     }
 
     /// The facilities that a component provides; none where it is unspecified.
-    pub fn provided_by(&self, component: Number) -> Facilities {
-        self.specifications
-            .get(&component)
-            .map(|specification| specification.provides.clone())
-            .unwrap_or_default()
+    pub fn provided_by(&self, component: Number) -> &Facilities {
+        let specification = self.specifications.get(&component);
+        specification.map_or(&NO_FACILITIES, |specification| &specification.provides)
     }
 
     /// The facilities that components provide together.
@@ -289,7 +289,7 @@ impl Book {
         self.composed().all(|composed| {
             let mut seen = Facilities::new();
             let mut members = composed.composition.keys();
-            members.all(|member| self.provided_by(*member).into_iter().all(|f| seen.insert(f)))
+            members.all(|member| self.provided_by(*member).iter().all(|f| seen.insert(*f)))
         })
     }
 

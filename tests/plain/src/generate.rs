@@ -58,7 +58,7 @@ pub fn generate(kind: Kind, seed: u64, count: Option<usize>) -> Vec<u8> {
         Kind::Full => generator.full(count.unwrap_or(60)),
         Kind::Damaged => generator.damaged(count.unwrap_or(40)),
         Kind::Long => generator.long(count.unwrap_or(65_536)),
-        Kind::Bytes => generator.bytes(count.unwrap_or(200)),
+        Kind::Bytes => generator.bytes(count.unwrap_or(400)),
         Kind::Calls => generator.calls(count.unwrap_or(150)),
     }
     generator.text
@@ -341,7 +341,13 @@ impl Generator {
         }
     }
 
+    /// Half of the texts begin with commands of the language.
     fn bytes(&mut self, count: usize) {
+        if self.random.chance(50) {
+            for _ in 0..self.random.between(1, 6) {
+                self.grow();
+            }
+        }
         while self.text.len() < count {
             match self.random.below(6) {
                 0 => {

@@ -149,9 +149,7 @@ fn circle_of_usable_lists() {
     assert_eq!(after_k(text), "6,0\n7,0\n8,0\n9,0\n10,0\n11,20\n12,20\n");
 }
 
-#[test]
-fn figure_1() {
-    let text = r#"spec DiscScheduler provides schedule, service;
+const FIGURE_1: &str = r#"spec DiscScheduler provides schedule, service;
     FCFS;
     std SSTF
 end {spec DiscScheduler}
@@ -200,7 +198,8 @@ unused
 whereused rcblist
 out
 "#;
-    let expected = r#"1,0
+
+const FIGURE_1_LISTING: &str = r#"1,0
 2,0
 3,0
 4,0
@@ -236,5 +235,8 @@ mod rcblist; slist impl "/usr/ian/svcd/sl.ada.make" end
 mod rcbqueue; dynamicq impl "/usr/ian/svcd/dq.ada.make"; staticq impl "/usr/ian/svcd/sq.ada.make" end
 sys DiscScheduler use ds, rcblist, rcbqueue; FCFS = ds.FCFS, rcbqueue.staticq; SSTF = ds.SSTF, rcblist.slist end
 "#;
-    assert_eq!(listing(text), expected);
+
+#[test]
+fn figure_1() {
+    assert_eq!(listing(FIGURE_1), FIGURE_1_LISTING);
 }

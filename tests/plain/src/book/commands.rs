@@ -216,7 +216,7 @@ impl Book {
         ask(!self.has_version(component, version), 11)?;
         ask(self.version_count(component) < MOST_VERSIONS, 12)?;
         let required = facilities(requires);
-        ask(required.is_disjoint(&self.provided_by(component)), 13)?;
+        ask(required.is_disjoint(self.provided_by(component)), 13)?;
         if let Some(specification) = self.specifications.get_mut(&component) {
             specification.versions.insert(version, required);
         }

@@ -23,7 +23,7 @@ impl Book {
     /// SUPPLIES, line 15.2: what the component provides.
     pub fn supplies(&self, component: Number) -> Result<Facilities, Number> {
         self.ask_specified(component)?;
-        Ok(self.provided_by(component))
+        Ok(self.provided_by(component).clone())
     }
 
     /// NEEDS, line 16.3: the needs of the pair.
@@ -40,7 +40,7 @@ impl Book {
         let wanted = facilities(wanted);
         let rows: Vec<Pair> = self
             .pairs()
-            .filter(|(component, _)| wanted.is_subset(&self.provided_by(*component)))
+            .filter(|(component, _)| wanted.is_subset(self.provided_by(*component)))
             .collect();
         ask(rows.len() <= slice, 22)?;
         Ok(rows)

@@ -223,7 +223,8 @@ impl Generator {
                 false => systems,
             };
             let component = self.random.pick(&from).unwrap_or(0);
-            let provides: Vec<Number> = self.book().provided_by(component).into_iter().collect();
+            let provides: Vec<Number> =
+                self.book().provided_by(component).iter().copied().collect();
             target.extend(self.random.pick(&provides));
         }
         target
@@ -266,7 +267,7 @@ impl Generator {
             specified.filter(|other| *other != component && !above.contains(other)).collect();
         let versions = self.versions_of(component);
         let versions: Vec<String> = versions.iter().map(|v| self.version_name(*v)).collect();
-        let target = self.book().provided_by(component);
+        let target = self.book().provided_by(component).clone();
         let name = self.component_name(component);
         self.plan_system(&name, &versions, &target, &candidates)
     }
@@ -302,7 +303,7 @@ impl Generator {
     }
 
     pub(super) fn plan_modvar(&mut self, component: Number) -> String {
-        let provides = self.book().provided_by(component);
+        let provides = self.book().provided_by(component).clone();
         let provides: Vec<String> = provides.iter().map(|f| self.facility_name(*f)).collect();
         let most = self.random.below(3);
         let required = self.some_facilities(most, &provides);
@@ -326,7 +327,7 @@ impl Generator {
     pub(super) fn plan_composition(&mut self, component: Number) -> Vec<PlannedMember> {
         let usable = self.book().systems.get(&component).map(|system| &system.usable);
         let usable: Vec<Number> = usable.into_iter().flatten().copied().collect();
-        let target = self.book().provided_by(component);
+        let target = self.book().provided_by(component).clone();
         let members = self.compose(&target, &usable);
         self.planned(&members)
     }

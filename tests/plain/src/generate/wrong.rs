@@ -192,7 +192,7 @@ impl Generator {
         };
         let name = self.component_name(component);
         let (version, word) = (self.any_version(&name), self.some_implementation());
-        let provides = self.book().provided_by(component);
+        let provides = self.book().provided_by(component).clone();
         let own: Vec<String> = provides.iter().map(|f| self.facility_name(*f)).collect();
         let text = match self.random.below(3) {
             0 => modvar_text((&name, &version), &own, &word),

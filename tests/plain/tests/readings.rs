@@ -239,6 +239,31 @@ fn rows_rise_by_number() {
     check(text, expected);
 }
 
+/// New names get the lowest free places in order of mention.
+#[test]
+fn places_by_order_of_mention() {
+    let text = "spec a provides z, y; std w requires x; v requires u, x, t end
+        spec b provides t, u, x, y, z; std v; w end supplies b choice y end
+        mod b; w impl \"i\"; v impl \"i\" end modvar b.k requires m, l impl \"i\"
+        needs b.k modvar b.j requires l, m impl \"i\" needs b.j choice t end";
+    let expected = "1,0\n2,0\n3,0\n3,z\n3,y\n3,x\n3,u\n3,t\n\
+        4,0\n4,a,w\n4,a,v\n4,b,w\n4,b,v\n5,0\n6,0\n7,0\n7,m\n7,l\n8,0\n\
+        9,0\n9,m\n9,l\n10,0\n10,b,w\n10,b,v\n10,b,k\n10,b,j\n";
+    check(text, expected);
+}
+
+/// Of the pairs whose members are all listed the lowest number comes next.
+#[test]
+fn the_order_of_the_parts_list() {
+    let text = "spec top provides f, g; std v end spec low provides f; std v; w end
+        spec m provides f; n; std v requires g end spec k provides g; std v end
+        sys low use m; w = m.n; v = m end sys top use low, k; v = low.w, k end
+        parts top.v sysvar top.w = low, k end parts top.w parts low.v parts k.v";
+    let expected = "1,0\n2,0\n3,0\n4,0\n5,0\n6,0\n7,0\n7,m,n\n7,low,w\n7,k,v\n7,top,v\n\
+        8,0\n9,0\n9,m,v\n9,low,v\n9,k,v\n9,top,w\n10,0\n10,m,v\n10,low,v\n11,0\n11,k,v\n";
+    check(text, expected);
+}
+
 #[test]
 fn written_names_rise_by_their_bytes() {
     let text = "spec a- provides g; std v end spec a provides f; w; std v; W; v- end

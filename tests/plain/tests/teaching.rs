@@ -107,6 +107,38 @@ fn k10_room() {
     assert_eq!(outcome.book.parts(4, 4, 4), Err(22));
 }
 
+/// WHEREUSED goes on upwards, and "follows usable lists, not compositions".
+#[test]
+fn whereused_goes_upwards() {
+    let text = "whereused loop whereused tank whereused room
+        spec tub provides hold; std a end sys tub use loop, room; a = loop end
+        whereused valve whereused room delsys tub whereused room";
+    let expected = "8,0\n8,tank\n8,room\n9,0\n9,room\n10,0\n11,0\n12,0\n\
+        13,0\n13,tank\n13,room\n13,tub\n14,0\n14,tub\n15,0\n16,0\n";
+    assert_eq!(after_k(&format!("{ROOM}{text}")), format!("6,0\n7,0\n{expected}"));
+}
+
+/// UNUSED gives modules only, and UNDEFINED neither modules nor systems.
+#[test]
+fn unused_and_undefined() {
+    let text = "spec pump provides flow; std x end unused
+        mod pump; x impl \"i\" end mod probe; one impl \"i\" end
+        unused undefined delsys tank unused undefined";
+    let expected = "6,0\n7,0\n8,0\n9,0\n10,0\n10,pump\n11,0\n11,valve\n11,loop\n\
+        12,0\n13,0\n13,probe\n13,pump\n14,0\n14,valve\n14,loop\n14,tank\n";
+    assert_eq!(after_k(text), expected);
+}
+
+/// CHOICE gives the pairs that provide at least the facilities.
+#[test]
+fn choice_of_several() {
+    let text = "spec both provides cool, hold, flow; std x; a end
+        choice cool, hold end choice hold end choice temp, hold end";
+    let expected = "6,0\n7,0\n7,both,a\n7,both,x\n8,0\n8,loop,p\n8,tank,a\n\
+        8,both,a\n8,both,x\n9,0\n";
+    assert_eq!(after_k(text), expected);
+}
+
 #[test]
 fn k11_delsys() {
     assert_eq!(after_k(&format!("{ROOM}delsys tank")), "6,0\n7,0\n8,21\n");

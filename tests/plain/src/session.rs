@@ -145,6 +145,7 @@ impl Tables {
                 version: self.versions.number_or_place(version)?,
                 composition: self.composition(composition)?,
             }),
+            // No other command comes here.
             _ => Err(23),
         }
     }
@@ -279,6 +280,7 @@ impl Session {
                 let (component, version) = self.pair((c, v), Book::is_system, 7)?;
                 Call::DelSysvar(component, version)
             }
+            // No other command comes here.
             _ => return Err(23),
         })
     }
@@ -311,6 +313,7 @@ impl Session {
                 Ok(tables.pair_names(parts.rows))
             }
             Command::Out => Ok(Rows::Text(written::text(book, tables, usize::MAX)?)),
+            // No other command comes here.
             _ => Err(23),
         }
     }

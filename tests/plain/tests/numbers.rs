@@ -189,7 +189,7 @@ fn versions_of_systems() {
 /// What is changed in the teaching book, and a word for it.
 type Change = (&'static str, fn(&mut Book));
 
-const CHANGES: [Change; 26] = [
+const CHANGES: [Change; 27] = [
     ("a component", |book| {
         let specification = book.specifications[&0].clone();
         book.specifications.insert(32, specification);
@@ -243,6 +243,13 @@ const CHANGES: [Change; 26] = [
     }),
     ("B6", |book| change_spec(book, 1, |s| s.provides.insert(2))),
     ("B7", |book| change_spec(book, 2, |s| s.versions.insert(2, [0].into()).is_some())),
+    ("B8", |book| {
+        let mut specification = book.specifications[&0].clone();
+        specification.provides = [40].into();
+        book.specifications.insert(4, specification);
+        change_spec(book, 3, |s| s.provides.insert(40));
+        change_system(book, |s| s.usable.insert(4));
+    }),
     ("B9", |book| {
         change_system(book, |s| s.compositions.insert(3, [(2, 2), (0, 0)].into()).is_some())
     }),
@@ -322,9 +329,6 @@ fn rules_one_by_one() {
             assert!(!(holds && word.starts_with(rule)), "{word}");
         }
     }
-    let mut book = k();
-    change_system(&mut book, |s| s.compositions.insert(3, [(0, 0)].into()).is_some());
-    assert!(!book.b8());
 }
 
 #[test]
@@ -361,7 +365,10 @@ fn tables_for_text() {
     refused(|tables| drop(tables.facilities.places.remove(&1)));
     refused(|tables| drop(tables.implementations.places.insert(0, b"i i".to_vec())));
     refused(|tables| drop(tables.implementations.places.remove(&0)));
+    refused(|tables| drop(tables.components.places.insert(9, b"a".to_vec())));
+    refused(|tables| drop(tables.versions.places.insert(9, b"v".to_vec())));
     refused(|tables| drop(tables.facilities.places.insert(9, b"f".to_vec())));
+    refused(|tables| drop(tables.implementations.places.insert(9, b"i".to_vec())));
 }
 
 #[test]

@@ -360,6 +360,7 @@ fn rules_of_compositions() {
     check(&format!("{base}sys s use a, c, d; v = a, c, d end"), &format!("{rows}8,0\n"));
     check(&format!("{base}sys s use a, c; v = a, c end"), &format!("{rows}8,0\n"));
     check(&format!("{base}sys s use b, d; v = b end"), &format!("{rows}8,0\n"));
+    check(&format!("{base}sys s use a, b; v = a end"), &format!("{rows}8,21\n"));
 }
 
 #[test]

@@ -316,7 +316,7 @@ impl Generator {
             self.emit("out");
         }
         let length = match self.random.below(6) {
-            0 => bytes + 1,
+            0 => bytes.saturating_add(1),
             1 => bytes.saturating_sub(1),
             2 => bytes.saturating_sub(self.random.below(3_000)),
             _ => bytes,

@@ -6,8 +6,11 @@ use crate::book::{Facilities, Number, Pair, MOST_VERSIONS};
 use std::collections::BTreeSet;
 
 impl Generator {
-    /// One step of growth.
+    /// One step of growth; a book with little in it gets a part.
     pub(super) fn grow(&mut self) {
+        if self.book().specifications.len() < 3 {
+            return self.grow_part();
+        }
         match self.random.below(100) {
             0..=19 => self.grow_part(),
             20..=31 => self.grow_module(),

@@ -182,7 +182,7 @@ impl Generator {
         self.loose = false;
         let mut lines: Vec<String> = Vec::new();
         let mut steps = 0;
-        while lines.len() < count && steps < 20 * count {
+        while lines.len() < count && steps < count.saturating_mul(20) {
             steps += 1;
             let before = self.session.book.clone();
             self.text.clear();

@@ -48,6 +48,10 @@ module _ (s n : List ℕ) where
   pub sound : B4 (systemsOf s n) ≡ true → B5 (specsOf s n) (systemsOf s n) ≡ true → Sound (systemsOf s n)
   sound b4 b5 = rules→sound (specsOf s n) (systemsOf s n) (system-limits s n b5) b4 b5
 
+  pub passes-sound : passes s n ≡ true → Sound (systemsOf s n)
+  unfolding passes B1-to-B9
+  passes-sound t = sound (and-l _ _ (and-r _ _ (and-r _ _ (and-r _ _ (and-r _ _ (and-r _ _ t)))))) (b5-of (and-r _ _ (and-r _ _ t)))
+
 -- ---- whole rules
 
 pub B1-is : (S : Specs) → all 32 (ifSpecified S (B1at S)) ≡ B1 S

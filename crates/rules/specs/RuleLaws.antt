@@ -65,6 +65,13 @@ module _ (S : Specs) (c : ℕ) where
   unfolding B1at ownFree
   b1-last {r} v e n ev et = et ∙ ap (hasVersion S c) ev ∙ sym (and-true _ _ (sym e ∙ not-false r n))
 
+unfoldable pub unspecified : Specs → ℕ → Bool
+unspecified S c = ~ specified S c
+
+pub unspecified-is : (S : Specs) (c : ℕ) {r : Bool} → r ≡ specified S c → not r ≡ unspecified S c
+unfolding unspecified ~_
+unspecified-is S c e = ap not e
+
 -- a test of what is specified, of a component
 unfoldable pub ifSpecified : Specs → (ℕ → Bool) → ℕ → Bool
 ifSpecified S test c = specified S c ⇒ test c

@@ -1,24 +1,29 @@
 -- What the test for 25 tells of the plain book; and one law for each way out of the functions that put it.
 use mathlib.Core.Bool.{Bool, false, not, true}
 use mathlib.Core.List.{List}
-use mathlib.Core.Path.{_∙_, _≡_, ap, refl, sym}
-use Prim.Native.Nat.{ℕ}
+use mathlib.Core.Logic.{inl, inr}
+use mathlib.Core.Path.{_∙_, _≡_, ap, refl, subst, sym}
+use Prim.Native.Nat.{_<_, ℕ}
 use borrow.Author.Tests.{not-false, not-true}
-use Rattle.book.specs.Plain.{modulesOf, plainOf, proper, specsOf, systemsOf}
-use Rattle.book.specs.ReadLaws.{module-limits, spec-limits, system-limits}
+use Rattle.book.specs.Layout.{kindAt}
+use Rattle.book.specs.Plain.{modulesOf, plainOf, proper, properIf, specifiedAt, specsOf, systemsOf}
+use Rattle.book.specs.ReadLaws.{module-limits, spec-limits, specified-plain, system-limits}
+use Rattle.book.specs.Readers.{fresh-plain}
 use Rattle.model.specs.Book.{Book, Modules, Specs, Systems, composed, hasVersion, isSystem}
 use Rattle.model.specs.Limits.{Passes, oneToEight}
 use Rattle.model.specs.Rules.{B1, B1-to-B9, B1at, B2, B2at, B3, B3at, B4, B5, B5-to-B9, B5at, B6, B6at, B7, B7at, B8, B8at, B9}
 use Rattle.model.specs.Rules.{B9at, eachComposition, eachSpecified, eachSystem, p, r}
 use Rattle.rules.specs.CompositionLaws.{ifComposed, ofSystem, ruleAt}
-use Rattle.rules.specs.RuleLaws.{composed-version, countOk, ifSpecified, ifSystem}
+use Rattle.rules.specs.RuleLaws.{composed-version, countOk, ifSpecified, ifSystem, unspecified}
 use Rattle.rules.specs.Test.{passes}
 use Rattle.sets.specs.Sets.{Set, bit}
-use Rattle.sets.specs.TestLaws.{==-in, ==-not, all-in, and-false, and-in, and-l, and-r, and-true, clash, if-false, if-true, imp-in}
+use Rattle.sets.specs.TestLaws.{<?-in, ==-in, ==-not, ==-out, all-in, all-out, and-false, and-in, and-l, and-r, and-true, bool?}
+use Rattle.sets.specs.TestLaws.{clash, if-false, if-true, imp-in, not-in, not-out}
 use Rattle.sets.specs.Tests.{_&_, _==_, _⇒_, all, if_then_else_}
 use Rattle.theorems.specs.Frame.{composed-system}
 use Rattle.theorems.specs.Heights.{Sound}
 use Rattle.theorems.specs.Parts.{rules→sound}
+use Rattle.theorems.specs.Sequence.{empty-passes}
 
 module _ (s n : List ℕ) where
   pub passes-proper : passes s n ≡ true → proper s n ≡ true
@@ -44,6 +49,22 @@ module _ (s n : List ℕ) where
   pub plain-passes : proper s n ≡ true → Passes (plainOf s n) → passes s n ≡ true
   unfolding passes
   plain-passes t p = and-in _ _ t (and-in _ _ (p .counts) (p .rules))
+
+  -- a Book in which nothing is specified is the empty book
+  pub none-passes : all 32 (unspecified (specsOf s n)) ≡ true → passes s n ≡ true
+  none-passes t = plain-passes proper-none (subst Passes (sym (fresh-plain s n zero-kind)) empty-passes)
+    where
+      none : (c : ℕ) → c < 32 → specifiedAt n c ≡ false
+      none c l = sym (specified-plain s n c) ∙ unfold unspecified in not-out _ (all-out _ _ t c l)
+
+      zero-kind : (c : ℕ) → c < 32 → kindAt n c ≡ 0
+      zero-kind c l = elim (bool? (kindAt n c == 0)) [
+        | inl y ↦ ==-out _ _ y
+        | inr z ↦ clash {b = specifiedAt n c} (unfold specifiedAt in and-in _ _ (<?-in _ _ l) (not-in _ z)) (none c l)
+      ]
+
+      proper-none : proper s n ≡ true
+      proper-none = unfold proper in all-in _ _ (λ c l. unfold properIf in imp-in _ _ (λ y. clash (==-in _ _ (zero-kind c l)) (not-out _ y)))
 
   pub sound : B4 (systemsOf s n) ≡ true → B5 (specsOf s n) (systemsOf s n) ≡ true → Sound (systemsOf s n)
   sound b4 b5 = rules→sound (specsOf s n) (systemsOf s n) (system-limits s n b5) b4 b5

@@ -41,17 +41,17 @@ fn nanoseconds(call: &dyn Fn() -> bool, calls: u32) -> f64 {
     start.elapsed().as_nanos() as f64 / f64::from(calls)
 }
 
-fn middle(mut times: Vec<f64>) -> f64 {
-    times.sort_by(f64::total_cmp);
-    times[times.len() / 2]
+/// The least time: what the program takes where the machine does nothing else.
+fn least(times: Vec<f64>) -> f64 {
+    times.into_iter().fold(f64::INFINITY, f64::min)
 }
 
-/// The middle times of both programs, which take turns.
+/// The least times of both programs, which take turns.
 fn beside(ours: &dyn Fn() -> bool, theirs: &dyn Fn() -> bool) -> (f64, f64) {
     let (n, m) = (calls_in_a_round(ours), calls_in_a_round(theirs));
     let rounds = (0..ROUNDS).map(|_| (nanoseconds(ours, n), nanoseconds(theirs, m)));
     let (first, second) = rounds.unzip();
-    (middle(first), middle(second))
+    (least(first), least(second))
 }
 
 fn line(name: &str, book: &Book) {

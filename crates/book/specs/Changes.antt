@@ -6,7 +6,6 @@ use mathlib.Core.Option.{none, some}
 use mathlib.Core.Path.{_≡_}
 use Prim.Native.Nat.{_*_, _+_, _<_, ℕ}
 use lib.ListN.{getD}
-use borrow.Fn.PlainCycle.{is}
 use Rattle.book.specs.Plain.{byte, facilitySet, plainOf, proper}
 use Rattle.model.specs.Book.{Book, Spec, Specs, System, components, hasVersion, isDefined, specified, versions}
 use Rattle.model.specs.Commands.{noFacility, withComposition, withVersion}

@@ -9,7 +9,6 @@ use native.Mathlib.Nat.{not-suc-le-zero}
 use native.Mathlib.Omega.{arith}
 use lib.ListN.{getD, length, length-set, set}
 use lib.Seq.{getD-set-other, getD-set-same}
-use borrow.Fn.PlainCycle.{is}
 use Rattle.book.specs.Changes.{Holds, TakesDefinition, implementationsOf, withModule}
 use Rattle.book.specs.Layout.{implementationAt, kindAt, membersAt, providesAt, requiresAt, slotsOf, standardAt, usableAt}
 use Rattle.book.specs.Plain.{byte, componentSet, compositionAt, facilitySet, kindIs, moduleAt, modulesOf, placeOf, plainOf}

@@ -5,7 +5,6 @@ use mathlib.Core.Logic.{_≢_}
 use mathlib.Core.Path.{_∙_, _≡_, ap, fun-ext, refl, sym}
 use Prim.Native.Nat.{_*_, _+_, _<_, _^_, _≤_, ℕ}
 use native.Mathlib.Omega.{arith}
-use borrow.Fn.PlainCycle.{is}
 use Rattle.book.specs.Changes.{HasRoom}
 use Rattle.book.specs.Layout.{kindAt, membersAt, slotsOf, usableAt}
 use Rattle.book.specs.Plain.{membersLow, placeOf, proper, properAt, properIf, setsLow, slot, slotApart, slotLow, slotsApart}

@@ -11,7 +11,6 @@ use native.Mathlib.Omega.{arith}
 use lib.ListN.{getD, length, length-set, set}
 use lib.Pow.{pow-pos}
 use lib.Seq.{getD-set-other, getD-set-same}
-use borrow.Fn.PlainCycle.{is}
 use Rattle.book.specs.Changes.{Holds, HoldsVersion, TakesVersion, rowOf, withModvar, withSysvar, withUndefined}
 use Rattle.book.specs.Layout.{implementationAt, kindAt, memberVersionAt, membersAt, requiresAt, slotsOf, versionAt}
 use Rattle.book.specs.Plain.{byte, componentSet, compositionAt, facilitySet, kindIs, modulesOf, placeOf, plainOf, proper}

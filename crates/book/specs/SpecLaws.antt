@@ -9,7 +9,6 @@ use native.Mathlib.Nat.{le-antisymm, le-refl, not-suc-le-zero}
 use native.Mathlib.Omega.{arith}
 use lib.ListN.{getD, length, length-set, set}
 use lib.Seq.{getD-set-other, getD-set-same}
-use borrow.Fn.PlainCycle.{is}
 use Rattle.book.specs.Changes.{Holds, TakesSpec, TakesVersion, blank, specFrom, withSpec, withUndefined}
 use Rattle.book.specs.Layout.{kindAt, slotsOf, standardAt}
 use Rattle.book.specs.Plain.{facilitySet, kindIs, modulesOf, placeOf, plainOf, slot, specAt, specifiedAt, specsOf, systemsOf}

@@ -9,7 +9,6 @@ use native.Mathlib.Nat.{le-refl, not-suc-le-zero}
 use native.Mathlib.Omega.{arith}
 use lib.ListN.{getD, length, length-set, set}
 use lib.Seq.{getD-set-other, getD-set-same}
-use borrow.Fn.PlainCycle.{is}
 use Rattle.book.specs.Changes.{Holds, TakesDefinition, compositionsOf, rowOf, systemFrom, withSystem}
 use Rattle.book.specs.DefineLaws.{defined-none, kept-specs, set-modules, set-proper, set-systems}
 use Rattle.book.specs.Layout.{kindAt, memberVersionAt, membersAt, providesAt, requiresAt, slotsOf, standardAt, usableAt}

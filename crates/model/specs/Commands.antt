@@ -3,7 +3,6 @@ use mathlib.Core.Bool.{false}
 use mathlib.Core.List.{List}
 use mathlib.Core.Option.{Option, none, some}
 use Prim.Native.Nat.{ℕ}
-use borrow.Fn.PlainCycle.{is}
 use Rattle.model.specs.Book.{Book, Spec, Specs, System, standard}
 use Rattle.model.specs.Lists.{beside, setOf}
 use Rattle.model.specs.Maps.{Map, change, optionMap, orElse, put}

@@ -4,7 +4,6 @@ use mathlib.Core.List.{List, [], _∷_}
 use mathlib.Core.Option.{Option}
 use Prim.Native.Nat.{ℕ}
 use lib.ListN.{length}
-use borrow.Fn.PlainCycle.{is}
 use Rattle.model.specs.Book.{Book, components, facilities, hasVersion, implementations, isDefined, isModule, isSystem, member}
 use Rattle.model.specs.Book.{provides, requires, specified, standard, usable, versions}
 use Rattle.model.specs.Commands.{ADD-MOD, ADD-MODVAR, ADD-SPEC, ADD-SYS, ADD-SYSVAR, Command, DEL-MOD, DEL-MODVAR, DEL-SPEC}

@@ -1,6 +1,5 @@
 -- Each of the ten commands keeps a book good.
 use mathlib.Core.Path.{_≡_}
-use borrow.Fn.PlainCycle.{is}
 use Rattle.model.specs.Book.{Book}
 use Rattle.model.specs.Commands.{ADD-MOD, ADD-MODVAR, ADD-SPEC, ADD-SYS, ADD-SYSVAR, Command, DEL-MOD, DEL-MODVAR, DEL-SPEC}
 use Rattle.model.specs.Commands.{DEL-SYS, DEL-SYSVAR, after}

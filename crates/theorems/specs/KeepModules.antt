@@ -6,7 +6,6 @@ use mathlib.Core.Option.{Option, none, some}
 use mathlib.Core.Path.{_∙_, _≡_, ap, sym}
 use Prim.Native.Nat.{ℕ}
 use native.Mathlib.Omega.{arith}
-use borrow.Fn.PlainCycle.{is}
 use Rattle.model.specs.Book.{Book, Modules, implementation, implementations, isModule, versions}
 use Rattle.model.specs.Commands.{ADD-MOD, DEL-MOD, after}
 use Rattle.model.specs.Limits.{ModuleLimits}

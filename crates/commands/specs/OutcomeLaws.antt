@@ -1,0 +1,67 @@
+-- How a command's questions, asked one after the other, give its outcome.
+use mathlib.Core.Bool.{Bool, false, not, true}
+use mathlib.Core.List.{List, _∷_}
+use mathlib.Core.Path.{_∙_, _≡_, ap, refl, subst, sym}
+use Prim.Native.Nat.{_≤_, suc, zero, ℕ}
+use native.Mathlib.Omega.{arith}
+use Rattle.book.specs.Changes.{Holds}
+use Rattle.book.specs.Plain.{plainOf}
+use Rattle.commands.specs.Outcome.{Called, answered}
+use Rattle.model.specs.Commands.{Command, after}
+use Rattle.model.specs.Limits.{Passes}
+use Rattle.model.specs.PlainBook.{answer, next}
+use Rattle.model.specs.Questions.{Question, firstNo}
+use Rattle.rules.specs.Test.{passes}
+use Rattle.rules.specs.TestLaws.{passes-plain, plain-passes}
+use Rattle.sets.specs.TestLaws.{<?-out, fails, if-false, if-true}
+use Rattle.sets.specs.Tests.{_<?_, ~_}
+use Rattle.theorems.specs.Sequence.{next-passes}
+
+-- ---- the first no
+
+pub no-at : (m : ℕ) (t : Bool) (qs : List Question) → t ≡ false → firstNo ((m, t) ∷ qs) ≡ m
+unfolding firstNo
+no-at m t qs e = if-false _ _ _ e
+
+pub yes-at : (m : ℕ) (t : Bool) (qs : List Question) → t ≡ true → firstNo ((m, t) ∷ qs) ≡ firstNo qs
+unfolding firstNo
+yes-at m t qs e = if-true _ _ _ e
+
+pub not-yes : (b : Bool) → b ≡ true → (~ b) ≡ false
+unfolding ~_
+not-yes b e = ap not e
+
+pub too-large : (l c : ℕ) → l ≤ c → (c <? l) ≡ false
+too-large l c h = fails _ (λ t. omega (arith, h, <?-out _ _ t))
+
+-- ---- outcomes on a Book that passes
+
+module _ (s n : List ℕ) (k : Command) (good : passes s n ≡ true) where
+  answered-is : answered s n k ≡ answer (plainOf s n) k
+  unfolding answered
+  answered-is = if-true _ _ _ good
+
+  pub refuse : (m : ℕ) → answer (plainOf s n) k ≡ suc m → Called s n k (suc m) s n
+  refuse m e = record {
+    answer-is = sym (answered-is ∙ e);
+    refused = λ _. (refl, refl);
+    accepted = λ z. absurd (omega (arith, z));
+  }
+
+  next-is : answer (plainOf s n) k ≡ 0 → next (plainOf s n) k ≡ after (plainOf s n) k
+  unfolding next
+  next-is e = ap (λ (m : ℕ). elim m [ zero ↦ after (plainOf s n) k | suc x ↦ plainOf s n ]) e
+
+  pub accept : {s′ n′ : List ℕ} → answer (plainOf s n) k ≡ 0 → Holds s′ n′ (after (plainOf s n) k) → Called s n k 0 s′ n′
+  accept {s′} {n′} e h =
+      let next′ : plainOf s′ n′ ≡ next (plainOf s n) k = h .is ∙ sym (next-is e) in
+      record {
+        answer-is = sym (answered-is ∙ e);
+        refused = λ z. absurd (z refl);
+        accepted = λ z. (next′, plain-passes s′ n′ (h .isProper) (subst Passes (sym next′) (next-passes (plainOf s n) k (passes-plain s n good))));
+      }
+
+-- a Book that is none
+pub refuse-25 : (s n : List ℕ) (k : Command) → passes s n ≡ false → Called s n k 25 s n
+unfolding answered
+refuse-25 s n k e = record { answer-is = sym (if-false _ _ _ e); refused = λ _. (refl, refl); accepted = λ z. absurd (omega (arith, z)) }

@@ -1,0 +1,300 @@
+// The ten commands. Each is asked the questions of document 01 in their order; the number at the first no is its answer, and without one it
+// answers 0 and hands the changed Book back.
+ghost use mathlib.Core.Path.{_≡_};
+ghost use mathlib.Core.Bool.{true};
+ghost use Prim.Native.Nat.{_<_};
+ghost use Rattle.book.specs.Plain.{plainOf};
+ghost use Rattle.rules.specs.Test as test;
+ghost use Rattle.model.specs.Commands.{DEL-SPEC, DEL-MOD, DEL-SYS, DEL-MODVAR, DEL-SYSVAR};
+ghost use Rattle.model.specs.Questions.{usableInNone, heldByNone};
+ghost use Rattle.commands.specs.Outcome.{Called};
+ghost use Rattle.commands.specs.Asked.{notUsableIn, notHeldAt, notHeldIn};
+use book::Book;
+
+// What a command gives back: its answer, 0 where it is accepted, and the Book.
+pub struct Outcome {
+    pub answer: u8,
+    pub book: Book,
+}
+
+// ---- questions
+
+// Question 18 of DEL-SPEC, for the system s.
+fn not_usable_in<'a>(sets: &'a [u64; 576], numbers: &'a [u8; 8768], s: usize, c: usize) -> bool
+    requires { ⌜ (s < 32) × (c < 64) ⌝ }
+    ensures { λ r. ⌜ r ≡ notUsableIn (plainOf (now (sets .entry)) (now (numbers .entry)) .systems) c s ⌝ }
+{
+    !sets::member(book::usable(sets, numbers, s), c)
+}
+
+// Question 18 of DEL-SPEC: "is it usable in no system?"
+fn usable_in_none<'a>(sets: &'a [u64; 576], numbers: &'a [u8; 8768], c: usize) -> bool
+    requires { ⌜ c < 64 ⌝ }
+    ensures { λ r. ⌜ r ≡ usableInNone (plainOf (now (sets .entry)) (now (numbers .entry))) c ⌝ }
+{
+    for s in 0..32 {
+        if !not_usable_in(sets, numbers, s, c) {
+            return false;
+        }
+    }
+    true
+}
+
+// Question 18 of DEL-MODVAR and DEL-SYSVAR, for version w of the system s.
+fn not_held_at<'a>(
+    sets: &'a [u64; 576],
+    numbers: &'a [u8; 8768],
+    s: usize,
+    w: usize,
+    c: usize,
+    v: usize,
+) -> bool
+    requires { ⌜ (s < 32) × (c < 32) ⌝ }
+    ensures { λ r. ⌜ r ≡ notHeldAt (plainOf (now (sets .entry)) (now (numbers .entry)) .systems) c v s w ⌝ }
+{
+    if !sets::member(book::members(sets, numbers, s, w), c) {
+        return true;
+    }
+    book::member_version(sets, numbers, s, w, c) != v
+}
+
+// The same, for the system s.
+fn not_held_in<'a>(
+    sets: &'a [u64; 576],
+    numbers: &'a [u8; 8768],
+    s: usize,
+    c: usize,
+    v: usize,
+) -> bool
+    requires { ⌜ (s < 32) × (c < 32) ⌝ }
+    ensures { λ r. ⌜ r ≡ notHeldIn (plainOf (now (sets .entry)) (now (numbers .entry)) .systems) c v s ⌝ }
+{
+    for w in 0..64 {
+        if !not_held_at(sets, numbers, s, w, c, v) {
+            return false;
+        }
+    }
+    true
+}
+
+// Question 18 of DEL-MODVAR and DEL-SYSVAR: "does no composition hold this pair?"
+fn held_by_none<'a>(sets: &'a [u64; 576], numbers: &'a [u8; 8768], c: usize, v: usize) -> bool
+    requires { ⌜ c < 32 ⌝ }
+    ensures { λ r. ⌜ r ≡ heldByNone (plainOf (now (sets .entry)) (now (numbers .entry))) c v ⌝ }
+{
+    for s in 0..32 {
+        if !not_held_in(sets, numbers, s, c, v) {
+            return false;
+        }
+    }
+    true
+}
+
+// ---- commands on a Book that passes the test for 25
+
+// DEL-SPEC.
+pub fn del_spec_in(b: Book, c: usize) -> Outcome
+    requires { ⌜ test.passes (b .sets) (b .numbers) ≡ true ⌝ }
+    ensures { λ r. ⌜ Called (b .sets) (b .numbers) (DEL-SPEC c) (r .answer) (r .book .sets) (r .book .numbers) ⌝ }
+{
+    if 32 <= c {
+        return Outcome { answer: 1, book: b };
+    }
+    if !book::is_specified(&b.sets, &b.numbers, c) {
+        return Outcome { answer: 4, book: b };
+    }
+    if !usable_in_none(&b.sets, &b.numbers, c) {
+        return Outcome {
+            answer: 18,
+            book: b,
+        };
+    }
+    Outcome {
+        answer: 0,
+        book: book::take_spec(b, c),
+    }
+}
+
+// DEL-MOD.
+pub fn del_mod_in(b: Book, c: usize) -> Outcome
+    requires { ⌜ test.passes (b .sets) (b .numbers) ≡ true ⌝ }
+    ensures { λ r. ⌜ Called (b .sets) (b .numbers) (DEL-MOD c) (r .answer) (r .book .sets) (r .book .numbers) ⌝ }
+{
+    if 32 <= c {
+        return Outcome { answer: 1, book: b };
+    }
+    if !book::is_module(&b.sets, &b.numbers, c) {
+        return Outcome { answer: 6, book: b };
+    }
+    Outcome {
+        answer: 0,
+        book: book::take_mod(b, c),
+    }
+}
+
+// DEL-SYS: B5 to B9 are asked of every system that is left.
+pub fn del_sys_in(b: Book, c: usize) -> Outcome
+    requires { ⌜ test.passes (b .sets) (b .numbers) ≡ true ⌝ }
+    ensures { λ r. ⌜ Called (b .sets) (b .numbers) (DEL-SYS c) (r .answer) (r .book .sets) (r .book .numbers) ⌝ }
+{
+    if 32 <= c {
+        return Outcome { answer: 1, book: b };
+    }
+    if !book::is_system(&b.sets, &b.numbers, c) {
+        return Outcome { answer: 7, book: b };
+    }
+    let left = book::take_sys(b, c);
+    if !rules::b5_to_b9(&left.sets, &left.numbers) {
+        return Outcome {
+            answer: 21,
+            book: b,
+        };
+    }
+    Outcome {
+        answer: 0,
+        book: left,
+    }
+}
+
+// DEL-MODVAR.
+pub fn del_modvar_in(b: Book, c: usize, v: usize) -> Outcome
+    requires { ⌜ test.passes (b .sets) (b .numbers) ≡ true ⌝ }
+    ensures { λ r. ⌜ Called (b .sets) (b .numbers) (DEL-MODVAR c v) (r .answer) (r .book .sets) (r .book .numbers) ⌝ }
+{
+    if 32 <= c {
+        return Outcome { answer: 1, book: b };
+    }
+    if 64 <= v {
+        return Outcome { answer: 1, book: b };
+    }
+    if !book::is_module(&b.sets, &b.numbers, c) {
+        return Outcome { answer: 6, book: b };
+    }
+    if !book::has_version(&b.sets, &b.numbers, c, v) {
+        return Outcome {
+            answer: 10,
+            book: b,
+        };
+    }
+    if book::standard(&b.sets, &b.numbers, c) == v {
+        return Outcome {
+            answer: 15,
+            book: b,
+        };
+    }
+    if !held_by_none(&b.sets, &b.numbers, c, v) {
+        return Outcome {
+            answer: 18,
+            book: b,
+        };
+    }
+    Outcome {
+        answer: 0,
+        book: book::take_modvar(b, c, v),
+    }
+}
+
+// DEL-SYSVAR.
+pub fn del_sysvar_in(b: Book, c: usize, v: usize) -> Outcome
+    requires { ⌜ test.passes (b .sets) (b .numbers) ≡ true ⌝ }
+    ensures { λ r. ⌜ Called (b .sets) (b .numbers) (DEL-SYSVAR c v) (r .answer) (r .book .sets) (r .book .numbers) ⌝ }
+{
+    if 32 <= c {
+        return Outcome { answer: 1, book: b };
+    }
+    if 64 <= v {
+        return Outcome { answer: 1, book: b };
+    }
+    if !book::is_system(&b.sets, &b.numbers, c) {
+        return Outcome { answer: 7, book: b };
+    }
+    if !book::has_version(&b.sets, &b.numbers, c, v) {
+        return Outcome {
+            answer: 10,
+            book: b,
+        };
+    }
+    if book::standard(&b.sets, &b.numbers, c) == v {
+        return Outcome {
+            answer: 15,
+            book: b,
+        };
+    }
+    if !held_by_none(&b.sets, &b.numbers, c, v) {
+        return Outcome {
+            answer: 18,
+            book: b,
+        };
+    }
+    Outcome {
+        answer: 0,
+        book: book::take_sysvar(b, c, v),
+    }
+}
+
+// ---- the public calls
+
+// DEL-SPEC, on any Book.
+pub fn del_spec(b: Book, c: usize) -> Outcome
+    ensures { λ r. ⌜ Called (b .sets) (b .numbers) (DEL-SPEC c) (r .answer) (r .book .sets) (r .book .numbers) ⌝ }
+{
+    if !rules::passes(&b.sets, &b.numbers) {
+        return Outcome {
+            answer: 25,
+            book: b,
+        };
+    }
+    del_spec_in(b, c)
+}
+
+// DEL-MOD, on any Book.
+pub fn del_mod(b: Book, c: usize) -> Outcome
+    ensures { λ r. ⌜ Called (b .sets) (b .numbers) (DEL-MOD c) (r .answer) (r .book .sets) (r .book .numbers) ⌝ }
+{
+    if !rules::passes(&b.sets, &b.numbers) {
+        return Outcome {
+            answer: 25,
+            book: b,
+        };
+    }
+    del_mod_in(b, c)
+}
+
+// DEL-SYS, on any Book.
+pub fn del_sys(b: Book, c: usize) -> Outcome
+    ensures { λ r. ⌜ Called (b .sets) (b .numbers) (DEL-SYS c) (r .answer) (r .book .sets) (r .book .numbers) ⌝ }
+{
+    if !rules::passes(&b.sets, &b.numbers) {
+        return Outcome {
+            answer: 25,
+            book: b,
+        };
+    }
+    del_sys_in(b, c)
+}
+
+// DEL-MODVAR, on any Book.
+pub fn del_modvar(b: Book, c: usize, v: usize) -> Outcome
+    ensures { λ r. ⌜ Called (b .sets) (b .numbers) (DEL-MODVAR c v) (r .answer) (r .book .sets) (r .book .numbers) ⌝ }
+{
+    if !rules::passes(&b.sets, &b.numbers) {
+        return Outcome {
+            answer: 25,
+            book: b,
+        };
+    }
+    del_modvar_in(b, c, v)
+}
+
+// DEL-SYSVAR, on any Book.
+pub fn del_sysvar(b: Book, c: usize, v: usize) -> Outcome
+    ensures { λ r. ⌜ Called (b .sets) (b .numbers) (DEL-SYSVAR c v) (r .answer) (r .book .sets) (r .book .numbers) ⌝ }
+{
+    if !rules::passes(&b.sets, &b.numbers) {
+        return Outcome {
+            answer: 25,
+            book: b,
+        };
+    }
+    del_sysvar_in(b, c, v)
+}

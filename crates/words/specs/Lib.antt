@@ -1,0 +1,5 @@
+pub mod Reading
+pub mod ByteLaws
+pub mod SkipLaws
+pub mod RunLaws
+pub mod TokenLaws

@@ -154,3 +154,15 @@ module _ (t : Text) (at : ℕ) (s : Skipped) (i : ℕ) (w : Skips t at s) (e : s
   next-at r k =
       reads-from t at i _ r (subst (SkipsWithin t at) e (w .within) .0)
       (record { is = k .is ∙ sym skipped-to; within = k .within })
+
+-- ---- where a token that was read lies
+
+module _ (t : Text) (at : ℕ) (n : Next) (r : Token) (s : Reads t at n r) where
+  pub word-within : (a e : ℕ) → r ≡ Word a e → (at ≤ a) × (a < e) × (e ≤ length t)
+  word-within a e q = subst (ReadsWithin t at) q (s .within)
+
+  pub quoted-within : (a e : ℕ) → r ≡ Quoted a e → (at ≤ a) × (a < e) × (e < length t)
+  quoted-within a e q = subst (ReadsWithin t at) q (s .within)
+
+  pub mark-within : (c e : ℕ) → r ≡ Mark c e → (at < e) × (e ≤ length t)
+  mark-within c e q = subst (ReadsWithin t at) q (s .within)

@@ -1,0 +1,7 @@
+pub mod Scan
+pub mod Filled
+pub mod ScanLaws
+pub mod SameLaws
+pub mod RestLaws
+pub mod FilledLaws
+pub mod ClearLaws

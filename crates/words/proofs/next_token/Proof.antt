@@ -1,5 +1,5 @@
-use Rattle.words.specs.TokenLaws.{next-open, next-end, next-at}
 use borrow.Author.Needs.{needs}
+use Rattle.words.specs.TokenLaws.{next-open, next-end, next-at}
 use Rattle.words.proofs.next_token.Statement.{statement}
 use Rattle.words.proofs.next_token.Tie as tie
 

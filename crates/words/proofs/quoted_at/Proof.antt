@@ -1,5 +1,5 @@
-use Rattle.words.specs.TokenLaws.{quoted-cut, quoted-open, quoted-none, quoted-long, quoted-yes}
 use borrow.Author.Needs.{needs}
+use Rattle.words.specs.TokenLaws.{quoted-cut, quoted-open, quoted-none, quoted-long, quoted-yes}
 use Rattle.words.proofs.quoted_at.Statement.{statement}
 use Rattle.words.proofs.quoted_at.Tie as tie
 

@@ -1,5 +1,5 @@
-use Rattle.words.specs.TokenLaws.{token-word, token-mark, token-quoted, token-bad}
 use borrow.Author.Needs.{needs}
+use Rattle.words.specs.TokenLaws.{token-word, token-mark, token-quoted, token-bad}
 use Rattle.words.proofs.token_at.Statement.{statement}
 use Rattle.words.proofs.token_at.Tie as tie
 

@@ -9,16 +9,16 @@ use native.Mathlib.Omega.{arith}
 use lib.ListN.{length, length-append}
 use Rattle.model.specs.Lists.{every, nonEmpty}
 use Rattle.model.specs.Maps.{isSome, optionMap}
-use Rattle.names.specs.PlaceLaws.{lowest-behind, lowest-none}
+use Rattle.names.specs.PlaceLaws.{lowest-behind, lowest-none, short-there}
 use Rattle.names.specs.Stored.{answered, lowestFree, nameIn, placeWith, tableOf, tableWith}
 use Rattle.names.specs.UpToLastLaws.{last-length}
 use Rattle.sets.specs.TestLaws.{<?-no, <?-out, bool?, clash, fails, if-false, if-true, or-l, or-r, ≤?-in, ≤?-out}
 use Rattle.sets.specs.Tests.{_<?_, _≤?_}
-use Rattle.text.specs.Bytes.{among, same}
+use Rattle.text.specs.Bytes.{among, same, short}
 use Rattle.text.specs.Language.{Name}
 use Rattle.text.specs.Tables.{Table, enter, place}
-use Rattle.text_theorems.specs.Places.{place-among, place-there}
-use Rattle.text_theorems.specs.TextLaws.{same-refl}
+use Rattle.text_theorems.specs.Places.{enter-every, place-among, place-there}
+use Rattle.text_theorems.specs.TextLaws.{every-cons, every-none, same-refl}
 use Rattle.theorems.specs.MapLaws.{no-some}
 use Rattle.names.specs.declared.Found.{Found}
 use Rattle.names.specs.declared.Found.the-variants.{At, Nothing}
@@ -120,3 +120,14 @@ module _ (n : ℕ) (t : Table) (w : Name) (a : place t w ≡ none) where
   pub full-table : (f : Found) → every nonEmpty t ≡ true → answered f ≡ lowestFree n t → f ≡ Nothing → t ≡ tableWith n t w
   unfolding tableWith
   full-table f h e q = sym (if-false _ _ _ (full f h e q))
+
+-- ---- no place before the last name is free: it stays so
+
+pub with-held : (n : ℕ) (t : Table) (w : Name) → every nonEmpty t ≡ true → short w ≡ true → every nonEmpty (tableWith n t w) ≡ true
+unfolding tableWith
+with-held n t w h s =
+    elim (bool? (length (enter t (w ∷ [])) ≤? n)) [
+      | inl e ↦ ap (every nonEmpty) (if-true _ _ _ e)
+          ∙ enter-every nonEmpty t (w ∷ []) h (every-cons nonEmpty w [] (short-there w s) (every-none nonEmpty))
+      | inr e ↦ ap (every nonEmpty) (if-false _ _ _ e) ∙ h
+    ]

@@ -4,4 +4,5 @@ pub mod ScanLaws
 pub mod SameLaws
 pub mod RestLaws
 pub mod FilledLaws
+pub mod WrittenLaws
 pub mod ClearLaws

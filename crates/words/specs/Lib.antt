@@ -3,6 +3,4 @@ pub mod ByteLaws
 pub mod SkipLaws
 pub mod RunLaws
 pub mod TokenLaws
-pub mod Keywords
-pub mod KeywordLaws
 pub mod NameLaws

@@ -17,9 +17,9 @@ use Rattle.text.specs.Bytes.{Text, alnum, among, implByte, keywords, nameByte, 
 use Rattle.text.specs.Tables.{place}
 use Rattle.text.specs.Tokens.{past}
 use Rattle.text_theorems.specs.Places.{place-among, place-there}
-use Rattle.words.specs.declared.Keyword.{Keyword}
-use Rattle.words.specs.declared.Keyword.the-variants.{Number, None}
-use Rattle.words.specs.Keywords.{numberOf}
+use Rattle.names.specs.declared.Found.{Found}
+use Rattle.names.specs.declared.Found.the-variants.{At, Nothing}
+use Rattle.names.specs.Stored.{answered}
 use Rattle.words.specs.Reading.{RunsTo, inRun}
 
 -- ---- a word that was read
@@ -28,17 +28,17 @@ pub word-long : (w : Text) → 32 < length w → false ≡ nameWord w
 unfolding nameWord
 word-long w h = sym (and-false _ _ (fails _ (λ t. absurd (let q = ≤?-out _ _ t in omega arith))))
 
-module _ (w : Text) (k : Keyword) (f : numberOf k ≡ place keywords w) where
-  pub word-name : length w ≤ 32 → k ≡ None → true ≡ nameWord w
-  unfolding nameWord numberOf isSome
+module _ (w : Text) (k : Found) (f : answered k ≡ place keywords w) where
+  pub word-name : length w ≤ 32 → k ≡ Nothing → true ≡ nameWord w
+  unfolding nameWord answered isSome
   word-name h e =
-      let no : among w keywords ≡ false = fails _ (λ t. clash (place-there keywords w t) (ap isSome (sym f ∙ ap numberOf e))) in
+      let no : among w keywords ≡ false = fails _ (λ t. clash (place-there keywords w t) (ap isSome (sym f ∙ ap answered e))) in
       sym (and-in _ _ (≤?-in _ _ h) (not-in _ no))
 
-  pub word-keyword : (j : ℕ) → k ≡ Number j → false ≡ nameWord w
-  unfolding nameWord numberOf
+  pub word-keyword : (j : ℕ) → k ≡ At j → false ≡ nameWord w
+  unfolding nameWord answered
   word-keyword j e =
-      let yes : among w keywords ≡ true = place-among keywords w j (sym f ∙ ap numberOf e) in
+      let yes : among w keywords ≡ true = place-among keywords w j (sym f ∙ ap answered e) in
       sym (fails _ (λ t. clash yes (not-out _ (and-r _ _ t))))
 
 -- ---- all of a text is one run

@@ -21,7 +21,7 @@ use Rattle.words.specs.declared.Token.the-variants.{Word, Quoted, Mark, 
 use Rattle.words.specs.Reading.{Reads, ReadsWithin, RunsTo, Skips, SkipsWithin, inRun, nextOf, part, quotedFrom, restFrom}
 use Rattle.words.specs.RunLaws.{run-part}
 
-short-in : (w : Text) → 0 < length w → length w ≤ 32 → short w ≡ true
+pub short-in : (w : Text) → 0 < length w → length w ≤ 32 → short w ≡ true
 unfolding short nonEmpty
 short-in [] p q = absurd (omega arith)
 short-in (c ∷ cs) p q = and-in _ _ refl (≤?-in _ _ q)

@@ -1,13 +1,14 @@
 // Tokens and words of a text. The text is the caller's, the position a number of its own. What an answer means is
 // specs/Reading.antt.
 ghost use mathlib.Core.Path.{_≡_};
-ghost use Prim.Native.Nat.{_+_, _*_, _<_, _≤_, _-_};
+ghost use mathlib.Core.Bool.{true};
+ghost use Prim.Native.Nat.{_<_, _≤_, _-_};
 ghost use lib.ListN.{length, take, drop};
-ghost use Rattle.text.specs.Bytes.{same, white, alnum, isMark, keywords, nameWord, validName, validImplementation};
+ghost use Rattle.text.specs.Bytes.{short, white, alnum, isMark, keywords, nameWord, validName, validImplementation};
 ghost use Rattle.text.specs.Tables.{place};
 ghost use Rattle.text.specs.Tokens.{tokenAt, nextToken};
 ghost use Rattle.words.specs.Reading.{passes, staysOpen, inRun, Skips, RunsTo, quotedFrom, Reads};
-ghost use Rattle.words.specs.Keywords.{Table, rows, numberOf};
+ghost use Rattle.names.specs.Stored.{answered};
 
 // Where the next token or the end of the text stands; or a comment is left open.
 pub enum Skipped {
@@ -170,119 +171,54 @@ pub fn word<'a>(text: &'a [u8], start: usize, end: usize) -> &'a [u8]
 
 // ---- keywords and names
 
-// The number of the keyword that a word is, from 0 on in the order of `keywords`; or it is none.
-pub enum Keyword {
-    Number(usize),
-    None,
-}
+// The keywords in their order, as a table of names: 33 bytes for each, its length first.
+const KEYWORDS: [u8; 924] = *b"\
+    \x08supplies\0\0\0\0\0\0\0\0\0\0\0\0\0\0\0\0\0\0\0\0\0\0\0\0\
+    \x05needs\0\0\0\0\0\0\0\0\0\0\0\0\0\0\0\0\0\0\0\0\0\0\0\0\0\0\0\
+    \x06choice\0\0\0\0\0\0\0\0\0\0\0\0\0\0\0\0\0\0\0\0\0\0\0\0\0\0\
+    \x03end\0\0\0\0\0\0\0\0\0\0\0\0\0\0\0\0\0\0\0\0\0\0\0\0\0\0\0\0\0\
+    \x08standard\0\0\0\0\0\0\0\0\0\0\0\0\0\0\0\0\0\0\0\0\0\0\0\0\
+    \x09undefined\0\0\0\0\0\0\0\0\0\0\0\0\0\0\0\0\0\0\0\0\0\0\0\
+    \x06unused\0\0\0\0\0\0\0\0\0\0\0\0\0\0\0\0\0\0\0\0\0\0\0\0\0\0\
+    \x09whereused\0\0\0\0\0\0\0\0\0\0\0\0\0\0\0\0\0\0\0\0\0\0\0\
+    \x02in\0\0\0\0\0\0\0\0\0\0\0\0\0\0\0\0\0\0\0\0\0\0\0\0\0\0\0\0\0\0\
+    \x03out\0\0\0\0\0\0\0\0\0\0\0\0\0\0\0\0\0\0\0\0\0\0\0\0\0\0\0\0\0\
+    \x04quit\0\0\0\0\0\0\0\0\0\0\0\0\0\0\0\0\0\0\0\0\0\0\0\0\0\0\0\0\
+    \x04spec\0\0\0\0\0\0\0\0\0\0\0\0\0\0\0\0\0\0\0\0\0\0\0\0\0\0\0\0\
+    \x08provides\0\0\0\0\0\0\0\0\0\0\0\0\0\0\0\0\0\0\0\0\0\0\0\0\
+    \x03std\0\0\0\0\0\0\0\0\0\0\0\0\0\0\0\0\0\0\0\0\0\0\0\0\0\0\0\0\0\
+    \x08requires\0\0\0\0\0\0\0\0\0\0\0\0\0\0\0\0\0\0\0\0\0\0\0\0\
+    \x06all-of\0\0\0\0\0\0\0\0\0\0\0\0\0\0\0\0\0\0\0\0\0\0\0\0\0\0\
+    \x03mod\0\0\0\0\0\0\0\0\0\0\0\0\0\0\0\0\0\0\0\0\0\0\0\0\0\0\0\0\0\
+    \x04impl\0\0\0\0\0\0\0\0\0\0\0\0\0\0\0\0\0\0\0\0\0\0\0\0\0\0\0\0\
+    \x03sys\0\0\0\0\0\0\0\0\0\0\0\0\0\0\0\0\0\0\0\0\0\0\0\0\0\0\0\0\0\
+    \x03use\0\0\0\0\0\0\0\0\0\0\0\0\0\0\0\0\0\0\0\0\0\0\0\0\0\0\0\0\0\
+    \x07delspec\0\0\0\0\0\0\0\0\0\0\0\0\0\0\0\0\0\0\0\0\0\0\0\0\0\
+    \x06delmod\0\0\0\0\0\0\0\0\0\0\0\0\0\0\0\0\0\0\0\0\0\0\0\0\0\0\
+    \x06delsys\0\0\0\0\0\0\0\0\0\0\0\0\0\0\0\0\0\0\0\0\0\0\0\0\0\0\
+    \x06modvar\0\0\0\0\0\0\0\0\0\0\0\0\0\0\0\0\0\0\0\0\0\0\0\0\0\0\
+    \x06sysvar\0\0\0\0\0\0\0\0\0\0\0\0\0\0\0\0\0\0\0\0\0\0\0\0\0\0\
+    \x09delmodvar\0\0\0\0\0\0\0\0\0\0\0\0\0\0\0\0\0\0\0\0\0\0\0\
+    \x09delsysvar\0\0\0\0\0\0\0\0\0\0\0\0\0\0\0\0\0\0\0\0\0\0\0\
+    \x05parts\0\0\0\0\0\0\0\0\0\0\0\0\0\0\0\0\0\0\0\0\0\0\0\0\0\0\0";
 
-// A table of names: 32 bytes for each keyword, and its length.
-const KEYWORDS: [u8; 896] = *b"\
-    supplies\0\0\0\0\0\0\0\0\0\0\0\0\0\0\0\0\0\0\0\0\0\0\0\0\
-    needs\0\0\0\0\0\0\0\0\0\0\0\0\0\0\0\0\0\0\0\0\0\0\0\0\0\0\0\
-    choice\0\0\0\0\0\0\0\0\0\0\0\0\0\0\0\0\0\0\0\0\0\0\0\0\0\0\
-    end\0\0\0\0\0\0\0\0\0\0\0\0\0\0\0\0\0\0\0\0\0\0\0\0\0\0\0\0\0\
-    standard\0\0\0\0\0\0\0\0\0\0\0\0\0\0\0\0\0\0\0\0\0\0\0\0\
-    undefined\0\0\0\0\0\0\0\0\0\0\0\0\0\0\0\0\0\0\0\0\0\0\0\
-    unused\0\0\0\0\0\0\0\0\0\0\0\0\0\0\0\0\0\0\0\0\0\0\0\0\0\0\
-    whereused\0\0\0\0\0\0\0\0\0\0\0\0\0\0\0\0\0\0\0\0\0\0\0\
-    in\0\0\0\0\0\0\0\0\0\0\0\0\0\0\0\0\0\0\0\0\0\0\0\0\0\0\0\0\0\0\
-    out\0\0\0\0\0\0\0\0\0\0\0\0\0\0\0\0\0\0\0\0\0\0\0\0\0\0\0\0\0\
-    quit\0\0\0\0\0\0\0\0\0\0\0\0\0\0\0\0\0\0\0\0\0\0\0\0\0\0\0\0\
-    spec\0\0\0\0\0\0\0\0\0\0\0\0\0\0\0\0\0\0\0\0\0\0\0\0\0\0\0\0\
-    provides\0\0\0\0\0\0\0\0\0\0\0\0\0\0\0\0\0\0\0\0\0\0\0\0\
-    std\0\0\0\0\0\0\0\0\0\0\0\0\0\0\0\0\0\0\0\0\0\0\0\0\0\0\0\0\0\
-    requires\0\0\0\0\0\0\0\0\0\0\0\0\0\0\0\0\0\0\0\0\0\0\0\0\
-    all-of\0\0\0\0\0\0\0\0\0\0\0\0\0\0\0\0\0\0\0\0\0\0\0\0\0\0\
-    mod\0\0\0\0\0\0\0\0\0\0\0\0\0\0\0\0\0\0\0\0\0\0\0\0\0\0\0\0\0\
-    impl\0\0\0\0\0\0\0\0\0\0\0\0\0\0\0\0\0\0\0\0\0\0\0\0\0\0\0\0\
-    sys\0\0\0\0\0\0\0\0\0\0\0\0\0\0\0\0\0\0\0\0\0\0\0\0\0\0\0\0\0\
-    use\0\0\0\0\0\0\0\0\0\0\0\0\0\0\0\0\0\0\0\0\0\0\0\0\0\0\0\0\0\
-    delspec\0\0\0\0\0\0\0\0\0\0\0\0\0\0\0\0\0\0\0\0\0\0\0\0\0\
-    delmod\0\0\0\0\0\0\0\0\0\0\0\0\0\0\0\0\0\0\0\0\0\0\0\0\0\0\
-    delsys\0\0\0\0\0\0\0\0\0\0\0\0\0\0\0\0\0\0\0\0\0\0\0\0\0\0\
-    modvar\0\0\0\0\0\0\0\0\0\0\0\0\0\0\0\0\0\0\0\0\0\0\0\0\0\0\
-    sysvar\0\0\0\0\0\0\0\0\0\0\0\0\0\0\0\0\0\0\0\0\0\0\0\0\0\0\
-    delmodvar\0\0\0\0\0\0\0\0\0\0\0\0\0\0\0\0\0\0\0\0\0\0\0\
-    delsysvar\0\0\0\0\0\0\0\0\0\0\0\0\0\0\0\0\0\0\0\0\0\0\0\
-    parts\0\0\0\0\0\0\0\0\0\0\0\0\0\0\0\0\0\0\0\0\0\0\0\0\0\0\0";
-
-const LENGTHS: [u8; 28] = [
-    8,
-    5,
-    6,
-    3,
-    8,
-    9,
-    6,
-    9,
-    2,
-    3,
-    4,
-    4,
-    8,
-    3,
-    8,
-    6,
-    3,
-    4,
-    3,
-    3,
-    7,
-    6,
-    6,
-    6,
-    6,
-    9,
-    9,
-    5,
-];
-
-// Whether the n bytes at place k of the table are the word.
-fn holds(names: &[u8], k: usize, n: usize, word: &[u8]) -> bool
-    requires { ⌜ k * 32 + n ≤ length (now names) ⌝ }
-    ensures { λ r. ⌜ r ≡ same (now (word .entry)) (take n (drop (k * 32) (now (names .entry)))) ⌝ }
+// The number of the keyword that a word is, if it is one.
+pub fn keyword_of(word: &[u8]) -> names::Found
+    requires { ⌜ short (now word) ≡ true ⌝ }
+    ensures { λ r. ⌜ answered r ≡ place keywords (now (word .entry)) ⌝ }
 {
-    let start = k * 32;
-    let end = start + n;
-    seqs::same(word, &names[start..end])
-}
-
-fn wide(x: u8) -> usize
-    ensures { λ r. ⌜ r ≡ x ⌝ }
-{
-    x as usize
-}
-
-// The first place of the table that holds the word.
-fn find(names: &[u8], lengths: &[u8], word: &[u8]) -> Keyword
-    requires { ⌜ Table (now names) (now lengths) ⌝ }
-    ensures { λ r. ⌜ numberOf r ≡ place (rows (now (names .entry)) (now (lengths .entry))) (now (word .entry)) ⌝ }
-{
-    let mut k = 0;
-    while k < lengths.len() {
-        if holds(names, k, wide(lengths[k]), word) {
-            return Keyword::Number(k);
-        }
-        k += 1;
-    }
-    Keyword::None
-}
-
-pub fn keyword_of(word: &[u8]) -> Keyword
-    ensures { λ r. ⌜ numberOf r ≡ place keywords (now (word .entry)) ⌝ }
-{
-    find(&KEYWORDS, &LENGTHS, word)
+    names::lookup(&KEYWORDS, 28, word)
 }
 
 // Whether a word that was read is a name.
 pub fn is_name_word(word: &[u8]) -> bool
+    requires { ⌜ 0 < length (now word) ⌝ }
     ensures { λ r. ⌜ r ≡ nameWord (now (word .entry)) ⌝ }
 {
     if 32 < word.len() {
         return false;
     }
-    let Keyword::Number(_) = keyword_of(word) else {
+    let names::Found::At(_) = keyword_of(word) else {
         return true;
     };
     false

@@ -24,4 +24,5 @@ loop-again c = (
 pub clear-spec : {M : Type 1} → statement M
 clear-spec = tie.close
     (tie.spec Inv-loop μ-loop (λ c. search needs) (λ c. search needs) (λ c. search needs) (λ c. search needs) loop-again
-    (λ c. search needs) (λ c. clear-end (c .before .loop .i) _ _ (c .before .loop .inv .0) (omega arith) (c .before .loop .inv .1)))
+    (λ c. search needs)
+    (λ c. clear-end (c .before .loop .i) _ _ (c .before .loop .inv .0) (omega arith) (c .before .loop .inv .1)))

@@ -1,4 +1,5 @@
--- What the bytes of a table of names mean: crate text's `Table`. Each place has 33 bytes: the length of its name, and then the name.
+-- What the bytes of a table of names mean: a `Table` of crate text. Each place has 33 bytes, the length of its name and then
+-- the name.
 use mathlib.Core.List.{List, [], _∷_}
 use mathlib.Core.Option.{Option, none, some}
 use Prim.Native.Nat.{_*_, _+_, suc, zero, ℕ}

@@ -10,8 +10,13 @@ use Rattle.names_main.proofs.main.Statement.{statement}
 use Rattle.names_main.proofs.main.Tie as tie
 
 first : tie.Need-show-entered-requires
-first c κs =
-    (search needs, (ap (every nonEmpty) (zeros-empty 3 99 (omega arith)) ∙ every-none nonEmpty, (unfold short nonEmpty _&_ _≤?_ in refl)))
+first c κs = (
+  search needs,
+  (
+    ap (every nonEmpty) (zeros-empty 3 99 (omega arith)) ∙ every-none nonEmpty,
+    (unfold short nonEmpty _&_ _≤?_ in refl),
+  ),
+)
 
 pub main-spec : {M : Type 1} → statement M
 main-spec = tie.close

@@ -74,12 +74,13 @@ place-new (x ∷ xs) w a =
 not-among : (t : Table) (w : Name) → place t w ≡ none → among w t ≡ false
 not-among t w e = fails _ (λ a. clash (place-there t w a) (ap isSome e ∙ (unfold isSome in refl)))
 
-pub behind-last : (n : ℕ) (t : Table) (f : Found) (k : ℕ) → every nonEmpty t ≡ true → length t ≤ n → answered f ≡ lowestFree n t → f ≡ At k
-    → (k < n) × (k ≡ length t)
+pub behind-last : (n : ℕ) (t : Table) (f : Found) (k : ℕ) → every nonEmpty t ≡ true → length t ≤ n
+    → answered f ≡ lowestFree n t → f ≡ At k → (k < n) × (k ≡ length t)
 behind-last n t f k h l e q =
     elim (bool? (length t <? n)) [
-      | inl y ↦ (let z : length t ≡ k = Option·some-injective _ _ (sym (lowest-behind n t h (<?-out _ _ y)) ∙ found-at f k _ e q) in
-          let o = <?-out _ _ y in (omega arith, sym z))
+      | inl y ↦ (let o = <?-out _ _ y in
+          let z : length t ≡ k = Option·some-injective _ _ (sym (lowest-behind n t h o) ∙ found-at f k _ e q) in
+          (omega arith, sym z))
       | inr y ↦ no-some (sym (lowest-none n t h (<?-no _ _ y)) ∙ found-at f k _ e q)
     ]
 
@@ -107,7 +108,8 @@ module _ (n : ℕ) (t : Table) (w : Name) (a : place t w ≡ none) where
   unfolding tableWith
   new-table k u h e q = q ∙ sym (if-true _ _ _ (fits-new (omega arith)) ∙ enter-new t w (not-among t w a))
 
-  full : (f : Found) → every nonEmpty t ≡ true → answered f ≡ lowestFree n t → f ≡ Nothing → (length (enter t (w ∷ [])) ≤? n) ≡ false
+  full : (f : Found) → every nonEmpty t ≡ true → answered f ≡ lowestFree n t → f ≡ Nothing
+      → (length (enter t (w ∷ [])) ≤? n) ≡ false
   full f h e q =
       let l = no-more n t f h e q in let m = new-length in
       fails _ (λ y. let o = ≤?-out _ _ y in absurd (omega arith))
@@ -123,7 +125,8 @@ module _ (n : ℕ) (t : Table) (w : Name) (a : place t w ≡ none) where
 
 -- ---- no place before the last name is free: it stays so
 
-pub with-held : (n : ℕ) (t : Table) (w : Name) → every nonEmpty t ≡ true → short w ≡ true → every nonEmpty (tableWith n t w) ≡ true
+pub with-held : (n : ℕ) (t : Table) (w : Name) → every nonEmpty t ≡ true → short w ≡ true
+    → every nonEmpty (tableWith n t w) ≡ true
 unfolding tableWith
 with-held n t w h s =
     elim (bool? (length (enter t (w ∷ [])) ≤? n)) [

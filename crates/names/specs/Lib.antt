@@ -3,3 +3,4 @@ pub mod UpToLastLaws
 pub mod PlaceLaws
 pub mod StoredLaws
 pub mod EnterLaws
+pub mod EnterAllLaws

@@ -143,7 +143,10 @@ every-at [] i e h = absurd (not-suc-le-zero h)
 every-at (x ∷ xs) zero e h = and-l _ _ e
 every-at (x ∷ xs) (suc i) e h = every-at xs i (and-r _ _ e) (le-of-suc-le-suc h)
 
-pub behind : (t : Table) (i : ℕ) → length t ≤ i → nameAt t i ≡ []
+not-free : {b : Bool} → b ≡ true → (~ b) ≡ false
+not-free e = fails _ (λ y. clash e (not-out _ y))
+
+behind : (t : Table) (i : ℕ) → length t ≤ i → nameAt t i ≡ []
 unfolding nameAt
 behind [] i h = refl
 behind (x ∷ xs) zero h = absurd (omega arith)
@@ -153,15 +156,9 @@ pub lowest-behind : (n : ℕ) (t : Table) → every nonEmpty t ≡ true → leng
 unfolding lowestFree nonEmpty
 lowest-behind n t e h =
     first-at n 0 (length t) (λ i. ~ nonEmpty (nameAt t i)) zero-le (omega arith)
-    (λ i l. no (every-at t i e l)) (ap (λ (x : Name). ~ nonEmpty x) (behind t (length t) (le-refl _)) ∙ not-in _ refl)
-  where
-    no : {b : Bool} → b ≡ true → (~ b) ≡ false
-    no e = fails _ (λ y. clash e (not-out _ y))
+    (λ i l. not-free (every-at t i e l)) (ap (λ (x : Name). ~ nonEmpty x) (behind t (length t) (le-refl _)) ∙ not-in _ refl)
 
 pub lowest-none : (n : ℕ) (t : Table) → every nonEmpty t ≡ true → n ≤ length t → lowestFree n t ≡ none
 unfolding lowestFree
 lowest-none n t e h =
-    first-none n 0 (λ i. ~ nonEmpty (nameAt t i)) (λ i l. no (every-at t i e (omega arith)))
-  where
-    no : {b : Bool} → b ≡ true → (~ b) ≡ false
-    no e = fails _ (λ y. clash e (not-out _ y))
+    first-none n 0 (λ i. ~ nonEmpty (nameAt t i)) (λ i l. not-free (every-at t i e (omega arith)))

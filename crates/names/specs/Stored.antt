@@ -1,12 +1,14 @@
--- What the bytes of a table of names mean: crate text's `Table`. Each place has 33 bytes: the length of its name, and then the name.
+-- What the bytes of a table of names mean: a `Table` of crate text. Each place has 33 bytes, the length of its name and then
+-- the name.
+use mathlib.Core.Bool.{Bool, true}
 use mathlib.Core.List.{List, [], _∷_}
 use mathlib.Core.Option.{Option, none, some}
 use Prim.Native.Nat.{_*_, _+_, suc, zero, ℕ}
 use lib.ListN.{drop, getD, length, take}
 use Rattle.model.specs.Book.{components, facilities, implementations, versions}
 use Rattle.model.specs.Lists.{firstFrom, nonEmpty}
-use Rattle.model.specs.Maps.{onlyIf}
-use Rattle.sets.specs.Tests.{_≤?_, if_then_else_, ~_}
+use Rattle.model.specs.Maps.{isSome, onlyIf}
+use Rattle.sets.specs.Tests.{_&_, _≤?_, if_then_else_, ~_}
 use Rattle.text.specs.Language.{Name}
 use Rattle.text.specs.Tables.{Table, Tables, enter, nameAt, place}
 use Rattle.names.specs.declared.Found.{Found}
@@ -56,3 +58,12 @@ placeWith n t w = if length (enter t (w ∷ [])) ≤? n then place (enter t (w �
 -- and the table then: unchanged if there is no place
 unfoldable pub tableWith : ℕ → Table → Name → Table
 tableWith n t w = if length (enter t (w ∷ [])) ≤? n then enter t (w ∷ []) else t
+
+-- the words of a list put in one after another, and whether each found a place
+unfoldable pub tableAfter : ℕ → Table → List Name → Table
+tableAfter n t [] = t
+tableAfter n t (w ∷ ws) = tableAfter n (tableWith n t w) ws
+
+unfoldable pub allPlaced : ℕ → Table → List Name → Bool
+allPlaced n t [] = true
+allPlaced n t (w ∷ ws) = isSome (placeWith n t w) & allPlaced n (tableWith n t w) ws

@@ -25,7 +25,8 @@ module _ (bytes : List ℕ) (p k : ℕ) (size : length bytes ≡ p * 33) (h : k 
   part-length : (m : ℕ) → m ≤ 32 → length (take m (drop (k * 33 + 1) bytes)) ≡ m
   part-length m l = length-take-le m (drop (k * 33 + 1) bytes) (rw length-drop (omega arith))
 
-  pub other-length : (w : Name) (n : ℕ) → short w ≡ true → n ≡ getD bytes (k * 33) 0 → n ≢ length w → false ≡ same w (nameIn bytes k)
+  pub other-length : (w : Name) (n : ℕ) → short w ≡ true → n ≡ getD bytes (k * 33) 0 → n ≢ length w
+      → false ≡ same w (nameIn bytes k)
   unfolding nameIn
   other-length w n s e d =
       sym (elim (bool? (getD bytes (k * 33) 0 ≤? 32)) [
@@ -49,7 +50,8 @@ module _ (bytes : List ℕ) (p k : ℕ) (size : length bytes ≡ p * 33) (h : k 
   free-length n e =
       elim (bool? (getD bytes (k * 33) 0 ≤? 32)) [
         | inl t ↦ (let l = ≤?-out _ _ t in
-            ap (λ (b : Bool). n == 0 or b) (fails _ (λ y. let u = <?-out _ _ y in absurd (omega arith))) ∙ or-swap _ _ ∙ or-false _ _ refl
+            ap (λ (b : Bool). n == 0 or b) (fails _ (λ y. let u = <?-out _ _ y in absurd (omega arith)))
+            ∙ or-swap _ _ ∙ or-false _ _ refl
             ∙ ap (λ (m : ℕ). m == 0) (e ∙ sym (part-length _ l)) ∙ empty-is _
             ∙ ap (λ (x : Name). ~ nonEmpty x) (sym (if-true _ _ _ t)))
         | inr t ↦ or-r _ _ (<?-in _ _ (more (λ y. clash (≤?-in _ _ (subst (λ (m : ℕ). m ≤ 32) e y)) t)))
@@ -79,7 +81,8 @@ module _ (bytes : List ℕ) (p k : ℕ) (size : length bytes ≡ p * 33) (h : k 
   -- a word written at place k, and then its length
   pub put-name : (w : Name) (copied : List ℕ) → short w ≡ true → k ≡ length (tableOf p bytes)
       → copied ≡ take (length w) w ++ drop (length w) (take (length bytes - (k * 33 + 1)) (drop (k * 33 + 1) bytes))
-      → tableOf p (set (take (k * 33 + 1) bytes ++ (copied ++ drop (length bytes - (k * 33 + 1)) (drop (k * 33 + 1) bytes))) (k * 33) (length w))
+      → tableOf p (set (take (k * 33 + 1) bytes ++ (copied ++ drop (length bytes - (k * 33 + 1)) (drop (k * 33 + 1) bytes)))
+      (k * 33) (length w))
       ≡ tableOf p bytes ++ (w ∷ [])
   unfolding tableOf nameIn
   put-name w copied s e q =
@@ -102,10 +105,12 @@ module _ (bytes : List ℕ) (p k : ℕ) (size : length bytes ≡ p * 33) (h : k 
       ]
 
       at : k * 33 + 1 + length w ≤ length bytes → (j : ℕ) → ((k * 33 ≤ j) × (j < k * 33 + 33) → ⊥)
-          → getD (set (take (k * 33 + 1) bytes ++ (w ++ drop (k * 33 + 1 + length w) bytes)) (k * 33) (length w)) j 0 ≡ getD bytes j 0
+          → getD (set (take (k * 33 + 1) bytes ++ (w ++ drop (k * 33 + 1 + length w) bytes)) (k * 33) (length w)) j 0
+          ≡ getD bytes j 0
       at f j u =
           let l = short-length w s .1 in
-          getD-set-other (take (k * 33 + 1) bytes ++ (w ++ drop (k * 33 + 1 + length w) bytes)) (k * 33) j (length w) 0 (λ y. u (omega arith, omega arith))
+          getD-set-other (take (k * 33 + 1) bytes ++ (w ++ drop (k * 33 + 1 + length w) bytes)) (k * 33) j (length w) 0
+          (λ y. u (omega arith, omega arith))
           ∙ elim (bool? (j <? k * 33)) [
             | inl y ↦ (let o = <?-out _ _ y in written-before bytes w (k * 33 + 1) f j (omega arith))
             | inr y ↦ (let o = <?-no _ _ y in written-behind bytes w (k * 33 + 1) f j (beyond o u l))

@@ -49,7 +49,8 @@ unfolding upToLast before
 last-none zero name h = refl
 last-none (suc n) name h = ap₂ before (h 0 (omega arith)) (last-none n (λ i. name (suc i)) (λ i l. h (suc i) (omega arith)))
 
-before-more : (x : Name) (t : Table) (w : Name) → (length (before x t) ≡ 0 → ⊥) → before x (t ++ (w ∷ [])) ≡ before x t ++ (w ∷ [])
+before-more : (x : Name) (t : Table) (w : Name) → length (before x t) ≢ 0
+    → before x (t ++ (w ∷ [])) ≡ before x t ++ (w ∷ [])
 unfolding before
 before-more [] [] w h = absurd (h refl)
 before-more [] (y ∷ ys) w h = refl

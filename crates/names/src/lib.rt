@@ -1,5 +1,5 @@
-// A table of names of any number of places, as one slice of bytes: 33 bytes for each place, the length of its name and then the name.
-// What it means is `tableOf` (specs/Stored.antt).
+// A table of names of any number of places, as one slice of bytes: 33 bytes for each place, the length of its name and then the
+// name. What it means is `tableOf` (specs/Stored.antt).
 ghost use mathlib.Core.Path.{_≡_};
 ghost use mathlib.Core.Bool.{true};
 ghost use mathlib.Core.List.{_++_, _∷_, []};

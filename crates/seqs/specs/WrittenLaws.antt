@@ -1,4 +1,5 @@
--- A list with w written over its elements from b on: what it holds before, at and behind them; and when two lists agree in a part.
+-- A list with w written over its elements from b on: what it holds before, at and behind them; and when two lists agree in a
+-- part.
 use mathlib.Core.List.{List, _++_}
 use mathlib.Core.Path.{_∙_, _≡_, ap, sym}
 use Prim.Native.Nat.{_+_, _-_, _<_, _≤_, ℕ}

@@ -21,10 +21,13 @@ returns c =
     (c .before .before .before .loop .inv .1) (c .before .holds .ensures) (c .if1 .taken)
 
 loop-again : tie.Need-loop-again Inv-loop μ-loop
-loop-again c =
-    (omega arith, any-turn _ _ (c .before .before .before .loop .inv .1) (held-is _ _ _ _ (c .before .holds .ensures)) (c .if1 .left))
+loop-again c = (
+  omega arith,
+  any-turn _ _ (c .before .before .before .loop .inv .1) (held-is _ _ _ _ (c .before .holds .ensures)) (c .if1 .left),
+)
 
 pub lookup-spec : {M : Type 1} → statement M
 lookup-spec = tie.close
-    (tie.spec Inv-loop μ-loop (λ c. (omega arith, any-start _)) (λ c κs. search needs) returns (λ c. omega arith) (λ c. omega arith) loop-again
+    (tie.spec Inv-loop μ-loop (λ c. (omega arith, any-start _)) (λ c κs. search needs) returns (λ c. omega arith)
+    (λ c. omega arith) loop-again
     (λ c. lookup-end _ _ _ _ (c .before .loop .inv .0) (c .loop-test .left) (c .before .loop .inv .1)))

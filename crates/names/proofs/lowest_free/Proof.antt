@@ -17,14 +17,17 @@ abbrev μ-loop : tie.MeasureT-loop
 
 returns : tie.Need-returns Inv-loop μ-loop
 returns c =
-    free-stop _ _ _ _ (c .before .before .loop-test .taken) (c .before .before .before .loop .inv .1) (c .before .is-free .ensures)
-    (c .if1 .taken)
+    free-stop _ _ _ _ (c .before .before .loop-test .taken) (c .before .before .before .loop .inv .1)
+    (c .before .is-free .ensures) (c .if1 .taken)
 
 loop-again : tie.Need-loop-again Inv-loop μ-loop
-loop-again c =
-    (omega arith, any-turn _ _ (c .before .before .before .loop .inv .1) (free-is _ _ _ (c .before .is-free .ensures)) (c .if1 .left))
+loop-again c = (
+  omega arith,
+  any-turn _ _ (c .before .before .before .loop .inv .1) (free-is _ _ _ (c .before .is-free .ensures)) (c .if1 .left),
+)
 
 pub lowest-free-spec : {M : Type 1} → statement M
 lowest-free-spec = tie.close
-    (tie.spec Inv-loop μ-loop (λ c. (omega arith, any-start _)) (λ c κs. search needs) returns (λ c. omega arith) (λ c. omega arith) loop-again
+    (tie.spec Inv-loop μ-loop (λ c. (omega arith, any-start _)) (λ c κs. search needs) returns (λ c. omega arith)
+    (λ c. omega arith) loop-again
     (λ c. free-end _ _ _ (c .before .loop .inv .0) (c .loop-test .left) (c .before .loop .inv .1)))

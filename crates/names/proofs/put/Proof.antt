@@ -17,9 +17,10 @@ cast-names c = omega (arith, short-length _ (c .before .before .before .before .
 returns : tie.Need-returns
 returns c =
     let p = c .before .before .before .before .before .before .pre in
-    put-name _ _ _ (p .0) (p .1 .0) _ (c .before .before .copy .last .1 .0) (p .1 .1 .1) (p .1 .1 .0) (c .before .before .copy .ensures .1)
+    let copied = c .before .before .copy in
+    put-name _ _ _ (p .0) (p .1 .0) _ (copied .last .1 .0) (p .1 .1 .1) (p .1 .1 .0) (copied .ensures .1)
 
 pub put-spec : {M : Type 1} → statement M
 put-spec = tie.close
-    (tie.spec (λ c. search needs) (λ c. search needs) (λ c. search needs) (λ c. search needs) (λ c. search needs) copy-requires cast-names
-    (λ c. search needs) (λ c. search needs) returns)
+    (tie.spec (λ c. search needs) (λ c. search needs) (λ c. search needs) (λ c. search needs) (λ c. search needs)
+    copy-requires cast-names (λ c. search needs) (λ c. search needs) returns)

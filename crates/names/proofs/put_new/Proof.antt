@@ -22,8 +22,11 @@ returns-2 : tie.Need-returns-2
 returns-2 c =
     let s = c .before .before .before .before .before .before .before in
     let p = s .before .before .before .before .pre in
-    let l = behind-last _ _ _ _ (p .1 .0) (table-length _ _) (s .lowest-free .ensures) (c .before .before .before .before .before .k .given .1) in
-    (new-place _ _ _ (p .1 .1 .1) _ (l .0) (l .1), new-table _ _ _ (p .1 .1 .1) _ _ (l .0) (l .1) (c .before .before .put .ensures))
+    let l = behind-last _ _ _ _ (p .1 .0) (table-length _ _) (s .lowest-free .ensures)
+    (c .before .before .before .before .before .k .given .1) in (
+      new-place _ _ _ (p .1 .1 .1) _ (l .0) (l .1),
+      new-table _ _ _ (p .1 .1 .1) _ _ (l .0) (l .1) (c .before .before .put .ensures),
+    )
 
 pub put-new-spec : {M : Type 1} → statement M
 put-new-spec = tie.close

@@ -1,5 +1,4 @@
 use borrow.Author.Needs.{needs}
-use native.Mathlib.Omega.{arith}
 use Rattle.names.specs.EnterLaws.{found-nothing, held-place, held-table}
 use Rattle.names.proofs.enter.Statement.{statement}
 use Rattle.names.proofs.enter.Tie as tie

@@ -1,5 +1,4 @@
 use borrow.Author.Needs.{needs}
-use native.Mathlib.Omega.{arith}
 use Rattle.names.specs.StoredLaws.{free-length}
 use Rattle.names.proofs.is_free.Statement.{statement}
 use Rattle.names.proofs.is_free.Tie as tie

@@ -1,6 +1,3 @@
-use borrow.Author.Needs.{needs}
-use native.Mathlib.Omega.{arith}
-use mathlib.Core.Path.{_≡_, refl, ap}
 use Rattle.names.specs.StoredLaws.{no-names}
 use Rattle.names.proofs.no_names.Statement.{statement}
 use Rattle.names.proofs.no_names.Tie as tie

@@ -1,5 +1,4 @@
 use borrow.Author.Needs.{needs}
-use native.Mathlib.Omega.{arith}
 use Rattle.names.specs.EnterLaws.{behind-last, full-place, full-table, new-place, new-table, table-length}
 use Rattle.names.proofs.put_new.Statement.{statement}
 use Rattle.names.proofs.put_new.Tie as tie

@@ -1,0 +1,6 @@
+pub mod Reading
+pub mod ByteLaws
+pub mod SkipLaws
+pub mod RunLaws
+pub mod TokenLaws
+pub mod NameLaws

@@ -70,22 +70,22 @@ row-same rows v from (suc k) m len hv h l = elim (same? m k) [
 
 -- ---- what a composition says of its members
 
-member-below : (ms : Members) → every memberBelow ms ≡ every (entryBelow components isVersionOrNone always always itself) ms
+pub member-below : (ms : Members) → every memberBelow ms ≡ every (entryBelow components isVersionOrNone always always itself) ms
 unfolding memberBelow entryBelow isVersionOrNone every
 member-below [] = refl
 member-below (m ∷ ms) = ap (λ (z : Bool). memberBelow m & z) (member-below ms)
 
-and-yes : (a : Bool) → (a & true) ≡ a
+pub and-yes : (a : Bool) → (a & true) ≡ a
 unfolding _&_
 and-yes true = refl
 and-yes false = refl
 
-every-always : {A : Type 0} (xs : List A) → every always xs ≡ true
+pub every-always : {A : Type 0} (xs : List A) → every always xs ≡ true
 unfolding every always _&_
 every-always [] = refl
 every-always (x ∷ xs) = every-always xs
 
-map-itself : {A : Type 0} (o : Option A) → optionMap itself o ≡ o
+pub map-itself : {A : Type 0} (o : Option A) → optionMap itself o ≡ o
 unfolding optionMap itself
 map-itself none = refl
 map-itself (some x) = refl

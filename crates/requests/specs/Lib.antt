@@ -5,3 +5,5 @@ pub mod GatheredLaws
 pub mod ViewLaws
 pub mod CompositionLaws
 pub mod SliceLaws
+pub mod Answers
+pub mod AnswerLaws

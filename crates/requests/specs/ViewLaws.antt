@@ -4,14 +4,14 @@ use mathlib.Core.List.{List}
 use mathlib.Core.Logic.{_≢_, inl, inr}
 use mathlib.Core.Option.{Option, none, some}
 use mathlib.Core.Path.{_∙_, _≡_, ap, ap₂, fun-ext, refl, sym}
-use Prim.Native.Nat.{_%_, _*_, _+_, _<_, _≤_, suc, zero, ℕ}
+use Prim.Native.Nat.{_<_, _^_, _≤_, ℕ}
 use native.Mathlib.Nat.{le-antisymm, not-suc-le-zero}
 use native.Mathlib.Numerals.{add-one}
 use native.Mathlib.Omega.{arith}
 use lib.Dec.{eqb}
 use lib.ListN.{getD, length, length-set, replicate, set}
 use lib.Seq.{getD-set-other, getD-set-same}
-use Rattle.book.specs.Plain.{byte}
+use Rattle.book.specs.Plain.{byte, facilitySet}
 use Rattle.model.specs.Book.{components, facilities, versions}
 use Rattle.model.specs.Commands.{Members}
 use Rattle.model.specs.Lists.{beside, elem, every, firsts, nonEmpty, once, seconds, setOf}
@@ -23,7 +23,7 @@ use Rattle.requests.specs.Said.{always, alone, compositionsStep, isImple
 use Rattle.requests.specs.Said.{numbersStep, setsStep, usableStep, versionSaid}
 use Rattle.requests.specs.Views.{byteAt, compositionAt, compositionView, compositionsView, held, markAt, markSaid, nothingAt, numbersView}
 use Rattle.requests.specs.Views.{rowWritten, setAt, setsView, usableView}
-use Rattle.sets.specs.SetLaws.{bit-zero}
+use Rattle.sets.specs.SetLaws.{bit-below, bit-zero}
 use Rattle.sets.specs.Sets.{Set, bit, with}
 use Rattle.sets.specs.TestLaws.{<?-in, <?-out, ==-in, ==-not, ==-same, and-false, and-in, and-true, bool?, clash, fails, if-false, if-true, or-false, or-l, or-r, same?}
 use Rattle.sets.specs.Tests.{_&_, _<?_, _==_, _or_, if_then_else_, ~_}
@@ -163,6 +163,10 @@ module _ {A B : Type 0} (n : ℕ) (good : A → Bool) (what : A → B) (l t : Bo
 
 -- ---- versions with sets
 
+pub set-is : (q : ℕ) → q < 2 ^ 64 → facilitySet q ≡ bit q
+unfolding facilitySet
+set-is q h = sym (bit-below 64 q h)
+
 module _ (g : Sets) (v q : ℕ) where
   abbrev SetGoes : Sets → Type 0
   SetGoes r = (fs : List ℕ) → eachBelow facilities fs ≡ true → setOf fs ≡ bit q → setsView r ≡ setsStep (setsView g) (v, fs)
@@ -176,12 +180,12 @@ module _ (g : Sets) (v q : ℕ) where
   unfolding setsView setsStep
   set-old h m y fs b e = plain-old versions _ setOf (g .large) (g .twice) (g .listed) (setAt (g .at)) v fs h b (sym m ∙ y)
 
-  pub set-new : {r : Bool} (w : ℕ) → v < 64 → length (g .at) ≡ 64 → r ≡ bit (g .listed) v → r ≡ false → bit w ≡ with (bit (g .listed)) v
+  pub set-new : {r : Bool} (w : ℕ) → v < 64 → q < 2 ^ 64 → length (g .at) ≡ 64 → r ≡ bit (g .listed) v → r ≡ false → bit w ≡ with (bit (g .listed)) v
       → SetGoes (record { large = g .large; twice = g .twice; listed = w; at = set (g .at) v q })
   unfolding setsView setsStep setAt
-  set-new w h len m y bits fs b e =
+  set-new w h q< len m y bits fs b e =
       plain-new versions _ setOf (g .large) (g .twice) (g .listed) (setAt (g .at)) v fs w (setAt (set (g .at) v q)) h b (sym m ∙ y) bits
-      (ap bit (getD-set-same (g .at) v q 0 (omega arith)) ∙ sym e) (λ i n. ap bit (getD-set-other (g .at) v i q 0 n))
+      (ap facilitySet (getD-set-same (g .at) v q 0 (omega arith)) ∙ set-is q q< ∙ sym e) (λ i n. ap facilitySet (getD-set-other (g .at) v i q 0 n))
 
 pub no-sets-is : setsView (record { large = false; twice = false; listed = 0; at = replicate 64 0 }) ≡ nothing
 unfolding setsView

@@ -4,7 +4,7 @@ use mathlib.Core.List.{List}
 use mathlib.Core.Option.{Option, none, some}
 use Prim.Native.Nat.{_*_, _+_, suc, zero, ℕ}
 use lib.ListN.{getD, set}
-use Rattle.book.specs.Plain.{byte}
+use Rattle.book.specs.Plain.{byte, facilitySet}
 use Rattle.model.specs.Book.{components, versions}
 use Rattle.model.specs.Maps.{Map, onlyIf}
 use Rattle.requests.specs.Gathered.{Gathered}
@@ -21,7 +21,7 @@ unfoldable pub held : {B : Type 0} → Bool → Bool → Bool → ℕ → (ℕ �
 held large empty twice s at = record { large = large; empty = empty; twice = twice; given = λ v. onlyIf (bit s v) (at v) }
 
 unfoldable pub setAt : List ℕ → ℕ → Set
-setAt at v = bit (getD at v 0)
+setAt at v = facilitySet (getD at v 0)
 
 unfoldable pub setsView : Sets → Gathered Set
 setsView g = held (g .large) false (g .twice) (g .listed) (setAt (g .at))

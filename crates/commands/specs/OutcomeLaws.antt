@@ -17,23 +17,6 @@ use Rattle.sets.specs.TestLaws.{<?-out, fails, if-false, if-true}
 use Rattle.sets.specs.Tests.{_<?_, ~_}
 use Rattle.theorems.specs.Sequence.{next-passes}
 
--- ---- the first no
-
-pub no-at : (m : ℕ) (t : Bool) (qs : List Question) → t ≡ false → firstNo ((m, t) ∷ qs) ≡ m
-unfolding firstNo
-no-at m t qs e = if-false _ _ _ e
-
-pub yes-at : (m : ℕ) (t : Bool) (qs : List Question) → t ≡ true → firstNo ((m, t) ∷ qs) ≡ firstNo qs
-unfolding firstNo
-yes-at m t qs e = if-true _ _ _ e
-
-pub not-yes : (b : Bool) → b ≡ true → (~ b) ≡ false
-unfolding ~_
-not-yes b e = ap not e
-
-pub too-large : (l c : ℕ) → l ≤ c → (c <? l) ≡ false
-too-large l c h = fails _ (λ t. omega (arith, h, <?-out _ _ t))
-
 -- ---- outcomes on a Book that passes
 
 module _ (s n : List ℕ) (k : Command) (good : passes s n ≡ true) where

@@ -62,7 +62,7 @@ pub fn needs_of<'a>(
 // ---- sets of components and of facilities
 
 // The specified components.
-fn specified_set<'a>(sets: &'a [u64; 576], numbers: &'a [u8; 8768]) -> u64
+pub fn specified_set<'a>(sets: &'a [u64; 576], numbers: &'a [u8; 8768]) -> u64
     ensures { λ r. ⌜ bit r ≡ specified (specsOf (now (sets .entry)) (now (numbers .entry))) ⌝ }
 {
     let mut found: u64 = 0;
@@ -216,7 +216,7 @@ fn is_bare<'a>(sets: &'a [u64; 576], numbers: &'a [u8; 8768], c: usize, v: usize
     required == 0
 }
 
-fn all_bare<'a>(sets: &'a [u64; 576], numbers: &'a [u8; 8768], c: usize) -> bool
+pub fn all_bare<'a>(sets: &'a [u64; 576], numbers: &'a [u8; 8768], c: usize) -> bool
     requires { ⌜ c < 32 ⌝ }
     ensures { λ r. ⌜ r ≡ all 64 (bare (now (sets .entry)) (now (numbers .entry)) c) ⌝ }
 {

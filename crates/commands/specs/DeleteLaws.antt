@@ -5,7 +5,7 @@ use mathlib.Core.Logic.{_≢_}
 use mathlib.Core.Path.{_∙_, _≡_, ap, refl, subst, sym}
 use Prim.Native.Nat.{_<_, _≤_, ℕ}
 use borrow.Author.Tests.{not-false, not-true}
-use Rattle.commands.specs.OutcomeLaws.{no-at, not-yes, too-large, yes-at}
+use Rattle.questions.specs.FirstNoLaws.{no-at, not-yes, too-large, yes-at}
 use Rattle.model.specs.Book.{Book, hasVersion, isModule, isSystem, specified, standard}
 use Rattle.model.specs.Commands.{DEL-MOD, DEL-MODVAR, DEL-SPEC, DEL-SYS, DEL-SYSVAR, after}
 use Rattle.model.specs.Limits.{Passes}

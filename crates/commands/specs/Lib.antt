@@ -2,3 +2,4 @@ pub mod Outcome
 pub mod OutcomeLaws
 pub mod Asked
 pub mod DeleteLaws
+pub mod AddLaws

@@ -1,8 +1,9 @@
 -- How a command's questions, asked one after the other, give its outcome.
-use mathlib.Core.Bool.{Bool, false, not, true}
-use mathlib.Core.List.{List, _∷_}
+use mathlib.Core.Bool.{false, true}
+use mathlib.Core.List.{List}
+use mathlib.Core.Logic.{_≢_}
 use mathlib.Core.Path.{_∙_, _≡_, ap, refl, subst, sym}
-use Prim.Native.Nat.{_≤_, suc, zero, ℕ}
+use Prim.Native.Nat.{suc, zero, ℕ}
 use native.Mathlib.Omega.{arith}
 use Rattle.book.specs.Changes.{Holds}
 use Rattle.book.specs.Plain.{plainOf}
@@ -10,11 +11,9 @@ use Rattle.commands.specs.Outcome.{Called, answered}
 use Rattle.model.specs.Commands.{Command, after}
 use Rattle.model.specs.Limits.{Passes}
 use Rattle.model.specs.PlainBook.{answer, next}
-use Rattle.model.specs.Questions.{Question, firstNo}
 use Rattle.rules.specs.Test.{passes}
 use Rattle.rules.specs.TestLaws.{passes-plain, plain-passes}
-use Rattle.sets.specs.TestLaws.{<?-out, fails, if-false, if-true}
-use Rattle.sets.specs.Tests.{_<?_, ~_}
+use Rattle.sets.specs.TestLaws.{if-false, if-true}
 use Rattle.theorems.specs.Sequence.{next-passes}
 
 -- ---- outcomes on a Book that passes
@@ -43,6 +42,10 @@ module _ (s n : List ℕ) (k : Command) (good : passes s n ≡ true) where
         refused = λ z. absurd (z refl);
         accepted = λ z. (next′, plain-passes s′ n′ (h .isProper) (subst Passes (sym next′) (next-passes (plainOf s n) k (passes-plain s n good))));
       }
+
+  -- the answer of the questions, put by a function of their own
+  pub refuse-any : (r : ℕ) → r ≡ answer (plainOf s n) k → r ≢ 0 → Called s n k r s n
+  refuse-any r e ne = record { answer-is = e ∙ sym answered-is; refused = λ _. (refl, refl); accepted = λ z. absurd (ne z) }
 
 -- a Book that is none
 pub refuse-25 : (s n : List ℕ) (k : Command) → passes s n ≡ false → Called s n k 25 s n

@@ -2,14 +2,26 @@
 // answers 0 and hands the changed Book back.
 ghost use mathlib.Core.Path.{_≡_};
 ghost use mathlib.Core.Bool.{true};
-ghost use Prim.Native.Nat.{_<_};
+ghost use mathlib.Core.List.{List};
+ghost use Prim.Native.Nat.{ℕ, _<_};
+ghost use Rattle.sets.specs.Sets.{bit};
 ghost use Rattle.book.specs.Plain.{plainOf};
 ghost use Rattle.rules.specs.Test as test;
+ghost use Rattle.model.specs.Book.{facilities};
+ghost use Rattle.model.specs.Commands.{Members, ADD-SPEC, ADD-MOD, ADD-SYS, ADD-MODVAR, ADD-SYSVAR};
 ghost use Rattle.model.specs.Commands.{DEL-SPEC, DEL-MOD, DEL-SYS, DEL-MODVAR, DEL-SYSVAR};
-ghost use Rattle.model.specs.Questions.{usableInNone, heldByNone};
+ghost use Rattle.model.specs.Lists.{setOf};
+ghost use Rattle.model.specs.Questions.{usableInNone, heldByNone, eachBelow};
+ghost use Rattle.requests.specs.Said.{setsOf, numbersOf, usableOf, compositionsOf, membersOf};
+ghost use Rattle.requests.specs.Views.{setsView, numbersView, usableView, compositionsView, compositionView};
 ghost use Rattle.commands.specs.Outcome.{Called};
 ghost use Rattle.commands.specs.Asked.{notUsableIn, notHeldAt, notHeldIn};
 use book::Book;
+use requests::Sets;
+use requests::Numbers;
+use requests::Usable;
+use requests::Composition;
+use requests::Compositions;
 
 // What a command gives back: its answer, 0 where it is accepted, and the Book.
 pub struct Outcome {
@@ -229,6 +241,66 @@ pub fn del_sysvar_in(b: Book, c: usize, v: usize) -> Outcome
     Outcome {
         answer: 0,
         book: book::take_sysvar(b, c, v),
+    }
+}
+
+// ---- the adding commands, on a Book that passes the test for 25: what is gathered of a command's lists goes in, and the call answers
+// for every command of which that is gathered
+
+// ADD-SPEC.
+pub fn add_spec_in(b: Book, c: usize, provided: u64, g: Sets, standard: usize) -> Outcome
+    requires { ⌜ test.passes (b .sets) (b .numbers) ≡ true ⌝ }
+    ensures { λ r. ⌜ ((ps : List ℕ) (vs : List (ℕ × List ℕ)) → eachBelow facilities ps ≡ true → setOf ps ≡ bit provided → setsView g ≡ setsOf vs
+        → Called (b .sets) (b .numbers) (ADD-SPEC c ps vs standard) (r .answer) (r .book .sets) (r .book .numbers)) ⌝ }
+{
+    let answer = questions::spec_answer(&b.sets, &b.numbers, c, provided, g, standard);
+    if answer != 0 {
+        return Outcome {
+            answer: answer,
+            book: b,
+        };
+    }
+    Outcome {
+        answer: 0,
+        book: book::put_spec(b, c, provided, g.listed, &g.at, standard as u8),
+    }
+}
+
+// ADD-MOD.
+pub fn add_mod_in(b: Book, c: usize, g: Numbers) -> Outcome
+    requires { ⌜ test.passes (b .sets) (b .numbers) ≡ true ⌝ }
+    ensures { λ r. ⌜ ((is : List (ℕ × ℕ)) → numbersView g ≡ numbersOf is
+        → Called (b .sets) (b .numbers) (ADD-MOD c is) (r .answer) (r .book .sets) (r .book .numbers)) ⌝ }
+{
+    let answer = questions::mod_answer(&b.sets, &b.numbers, c, g);
+    if answer != 0 {
+        return Outcome {
+            answer: answer,
+            book: b,
+        };
+    }
+    Outcome {
+        answer: 0,
+        book: book::put_mod(b, c, &g.at),
+    }
+}
+
+// ADD-MODVAR.
+pub fn add_modvar_in(b: Book, c: usize, v: usize, required: u64, i: usize) -> Outcome
+    requires { ⌜ test.passes (b .sets) (b .numbers) ≡ true ⌝ }
+    ensures { λ r. ⌜ ((rs : List ℕ) → eachBelow facilities rs ≡ true → setOf rs ≡ bit required
+        → Called (b .sets) (b .numbers) (ADD-MODVAR c v rs i) (r .answer) (r .book .sets) (r .book .numbers)) ⌝ }
+{
+    let answer = questions::modvar_answer(&b.sets, &b.numbers, c, v, required, i);
+    if answer != 0 {
+        return Outcome {
+            answer: answer,
+            book: b,
+        };
+    }
+    Outcome {
+        answer: 0,
+        book: book::put_modvar(b, c, v, required, i as u8),
     }
 }
 

@@ -3,3 +3,5 @@ pub mod OutcomeLaws
 pub mod Asked
 pub mod DeleteLaws
 pub mod AddLaws
+pub mod Calls
+pub mod Demand

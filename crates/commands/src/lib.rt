@@ -15,6 +15,7 @@ ghost use Rattle.model.specs.Questions.{usableInNone, heldByNone, eachBelow};
 ghost use Rattle.requests.specs.Said.{setsOf, numbersOf, usableOf, compositionsOf, membersOf};
 ghost use Rattle.requests.specs.Views.{setsView, numbersView, usableView, compositionsView, compositionView};
 ghost use Rattle.commands.specs.Outcome.{Called};
+ghost use Rattle.commands.specs.Calls.{commandOf, addSpec, addMod, addSys, addModvar, addSysvar};
 ghost use Rattle.commands.specs.Asked.{notUsableIn, notHeldAt, notHeldIn};
 use book::Book;
 use requests::Sets;
@@ -305,6 +306,57 @@ pub fn add_modvar_in(b: Book, c: usize, v: usize, required: u64, i: usize) -> Ou
 }
 
 // ---- the public calls
+
+// ADD-SPEC, on any Book: the facilities provided as a set; versions, and for each the set of the facilities that it requires.
+pub fn add_spec<'a>(
+    b: Book,
+    c: usize,
+    provided: u64,
+    versions: &'a [usize],
+    required: &'a [u64],
+    standard: usize,
+) -> Outcome
+    ensures { λ r. ⌜ Called (b .sets) (b .numbers) (commandOf (addSpec c provided (now (versions .entry)) (now (required .entry)) standard)) (r .answer) (r .book .sets) (r .book .numbers) ⌝ }
+{
+    if !rules::passes(&b.sets, &b.numbers) {
+        return Outcome {
+            answer: 25,
+            book: b,
+        };
+    }
+    add_spec_in(b, c, provided, requests::sets_of(versions, required), standard)
+}
+
+// ADD-MOD, on any Book: versions, and for each its implementation.
+pub fn add_mod<'a>(
+    b: Book,
+    c: usize,
+    versions: &'a [usize],
+    implementations: &'a [usize],
+) -> Outcome
+    ensures { λ r. ⌜ Called (b .sets) (b .numbers) (commandOf (addMod c (now (versions .entry)) (now (implementations .entry)))) (r .answer) (r .book .sets) (r .book .numbers) ⌝ }
+{
+    if !rules::passes(&b.sets, &b.numbers) {
+        return Outcome {
+            answer: 25,
+            book: b,
+        };
+    }
+    add_mod_in(b, c, requests::numbers_of(versions, implementations))
+}
+
+// ADD-MODVAR, on any Book: the facilities required as a set.
+pub fn add_modvar(b: Book, c: usize, v: usize, required: u64, implementation: usize) -> Outcome
+    ensures { λ r. ⌜ Called (b .sets) (b .numbers) (commandOf (addModvar c v required implementation)) (r .answer) (r .book .sets) (r .book .numbers) ⌝ }
+{
+    if !rules::passes(&b.sets, &b.numbers) {
+        return Outcome {
+            answer: 25,
+            book: b,
+        };
+    }
+    add_modvar_in(b, c, v, required, implementation)
+}
 
 // DEL-SPEC, on any Book.
 pub fn del_spec(b: Book, c: usize) -> Outcome

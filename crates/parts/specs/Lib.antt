@@ -1,0 +1,5 @@
+pub mod Listed
+pub mod Marks
+pub mod MarkLaws
+pub mod Due
+pub mod DueLaws

@@ -3,3 +3,5 @@ pub mod Marks
 pub mod MarkLaws
 pub mod Due
 pub mod DueLaws
+pub mod Rows
+pub mod RowLaws

@@ -11,8 +11,15 @@ ghost use Rattle.sets.specs.Sets as sets;
 ghost use Rattle.sets.specs.Sets.{bit};
 ghost use lib.ListN.{getD};
 ghost use Rattle.parts.specs.Marks.{Closed, Marked, PartsIn};
+ghost use Rattle.parts.specs.Rows.{AllRows};
 ghost use Rattle.parts.specs.Due.{memberIn, membersIn, dueIn, firstVersion, numberOf};
 use book::Book;
+
+// The rows of a list, and how many they are.
+struct Rows {
+    row: [u16; 256],
+    count: usize,
+}
 
 // ---- what the pair is made from
 
@@ -157,4 +164,25 @@ fn next_row<'a>(
         }
     }
     2048
+}
+
+// The rows of the parts list of version v of c.
+fn rows_of<'a>(sets: &'a [u64; 576], numbers: &'a [u8; 8768], c: usize, v: usize) -> Rows
+    requires { ⌜ (c < 32) × (v < 64) ⌝ }
+    requires { ⌜ Good (plainOf (now sets) (now numbers)) ⌝ }
+    requires { ⌜ hasVersion (plainOf (now sets) (now numbers) .specs) c v ≡ true ⌝ }
+    ensures { λ r. ⌜ AllRows (plainOf (now (sets .entry)) (now (numbers .entry))) c v (r .count) (r .row) ⌝ }
+{
+    let parts = parts_of(sets, numbers, c, v);
+    let mut listed: [u64; 32] = [0; 32];
+    let mut row: [u16; 256] = [0; 256];
+    for k in 0..256 {
+        let x = next_row(sets, numbers, &parts, &listed);
+        if 2048 <= x {
+            return Rows { row: row, count: k };
+        }
+        listed[x / 64] = sets::with(listed[x / 64], x % 64);
+        row[k] = x as u16;
+    }
+    Rows { row: row, count: 256 }
 }

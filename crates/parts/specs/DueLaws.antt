@@ -12,7 +12,6 @@ use Rattle.model.specs.Book.{Book, Pair, Systems, components, hasVersion, isMem
 use Rattle.model.specs.Lists.{firstFrom}
 use Rattle.model.specs.Maps.{elseTry, if-there, onlyIf, optionMap, orElse}
 use Rattle.model.specs.PartsList.{due, firstPair, isPart, listed, membersListed, nextRow}
-use Rattle.model.specs.Rules.{p, r}
 use Rattle.parts.specs.Due.{dueIn, firstVersion, memberIn, membersIn, numberOf}
 use Rattle.parts.specs.Listed.{rowNumber}
 use Rattle.parts.specs.Marks.{PartsIn, marked}
@@ -183,10 +182,10 @@ module _ (b : Book) (g : Good b) (c v : ℕ) (has-it : hasVersion (b .specs) c v
   unfolding dueIn due
   due-same d w = iff→≡ _ _
       (λ y. (let o = and-l _ _ y in let k = sym (pm .are d w) ∙ and-l _ _ o in
-          and-in _ _ (part-has-version b g c v has-it d w k) (and-in _ _ (sym (ap ~_ (lt d w)) ∙ and-r _ _ o)
-          (and-in _ _ (sym (members-same d w) ∙ and-r _ _ y) k))))
+      and-in _ _ (part-has-version b g c v has-it d w k) (and-in _ _ (sym (ap ~_ (lt d w)) ∙ and-r _ _ o)
+      (and-in _ _ (sym (members-same d w) ∙ and-r _ _ y) k))))
       (λ y. (let o = and-r _ _ y in let i = and-r _ _ o in
-          and-in _ _ (and-in _ _ (pm .are d w ∙ and-r _ _ i) (ap ~_ (lt d w) ∙ and-l _ _ o)) (members-same d w ∙ and-l _ _ i)))
+      and-in _ _ (and-in _ _ (pm .are d w ∙ and-r _ _ i) (ap ~_ (lt d w) ∙ and-l _ _ o)) (members-same d w ∙ and-l _ _ i)))
 
   pub next-same : nextRow b c v l ≡ firstPair (dueIn (b .systems) m t)
   unfolding nextRow

@@ -5,3 +5,5 @@ pub mod Due
 pub mod DueLaws
 pub mod Rows
 pub mod RowLaws
+pub mod ListedLaws
+pub mod Demand

@@ -5,11 +5,12 @@ use mathlib.Core.Option.{none, some}
 use mathlib.Core.Path.{_∙_, _≡_, ap, ap₂, refl, subst, sym}
 use Prim.Native.Nat.{_%_, _+_, _-_, _/_, _<_, _≤_, suc, ℕ}
 use native.Mathlib.Omega.{arith}
-use lib.ListN.{getD, length, length-append, length-map, length-replicate, length-set, replicate, set}
-use lib.Seq.{take-append-seam}
+use lib.ListN.{getD, length, length-append, length-map, length-replicate, length-set, replicate, set, take}
+use lib.Seq.{length-take-le, take-at, take-suc}
+use native.Mathlib.Nat.{le-antisymm}
+use native.Mathlib.Numerals.{add-one}
 use Rattle.model.specs.Book.{Book, Pair, hasVersion}
 use Rattle.model.specs.PartsList.{firstPair, listed, nextRow, parts, rowsFrom}
-use Rattle.model.specs.Rules.{p, r}
 use Rattle.parts.specs.Due.{dueIn, numberOf}
 use Rattle.parts.specs.DueLaws.{next-same, row-none, row-some}
 use Rattle.parts.specs.Listed.{rowNumber}
@@ -17,7 +18,7 @@ use Rattle.parts.specs.MarkLaws.{mark-one, no-marks}
 use Rattle.parts.specs.Marks.{PartsIn, marked}
 use Rattle.parts.specs.Rows.{AllRows, RowsTo}
 use Rattle.seqs.specs.Filled.{filled}
-use Rattle.seqs.specs.FilledLaws.{filled-none, filled-set}
+use Rattle.seqs.specs.FilledLaws.{filled-length, filled-none, filled-set}
 use Rattle.sets.specs.Sets.{bit, with}
 use Rattle.sets.specs.Tests.{_&_, _==_, _or_}
 use Rattle.theorems.specs.Good.{Good}
@@ -39,11 +40,12 @@ rows-start b c v = record {
 }
 
 -- the list ends where the rows end
-ended : (b : Book) (c v k : ℕ) (t a : List ℕ) (z : RowsTo b c v k t a) → rowsFrom (256 - k) b c v (z .back) ≡ [] → AllRows b c v k a
-ended b c v k t a z e =
+ended : (b : Book) (c v k : ℕ) (t a : List ℕ) (z : RowsTo b c v k t a) → k ≤ 256 → rowsFrom (256 - k) b c v (z .back) ≡ [] → AllRows b c v k a
+ended b c v k t a z h e =
     let whole : z .above ≡ parts b c v = sym (append-nil (z .above)) ∙ ap (λ (l : List Pair). z .above ++ l) (sym e) ∙ z .goes-on in
     record {
       count = z .count ∙ ap length whole;
+      few = h;
       array = z .array ∙ ap (λ (l : List Pair). filled (map rowNumber l) (replicate 256 0)) whole;
     }
 
@@ -52,7 +54,7 @@ rows-full b c v k t a z h h′ =
     let e : 256 - k ≡ 0 = omega arith in
     let k-is : k ≡ 256 = omega arith in
     subst (λ (n : ℕ). AllRows b c v n a) k-is
-    (ended b c v k t a z (ap (λ (n : ℕ). rowsFrom n b c v (z .back)) e ∙ rowsFrom-zero b c v (z .back)))
+    (ended b c v k t a z h (ap (λ (n : ℕ). rowsFrom n b c v (z .back)) e ∙ rowsFrom-zero b c v (z .back)))
 
 module _ (b : Book) (g : Good b) (c v : ℕ) (has-it : hasVersion (b .specs) c v ≡ true) (m : List ℕ) (pm : PartsIn (b .systems) c v m)
     (k x : ℕ) (t a : List ℕ) (z : RowsTo b c v k t a) (l : k < 256) (e : x ≡ numberOf (firstPair (dueIn (b .systems) m t))) where
@@ -63,7 +65,7 @@ module _ (b : Book) (g : Good b) (c v : ℕ) (has-it : hasVersion (b .specs) c v
   one-more = omega arith
 
   pub rows-end : 2048 ≤ x → AllRows b c v k a
-  rows-end h = ended b c v k t a z (ap (λ (n : ℕ). rowsFrom n b c v (z .back)) one-more
+  rows-end h = ended b c v k t a z (omega (arith, l)) (ap (λ (n : ℕ). rowsFrom n b c v (z .back)) one-more
       ∙ rowsFrom-end (256 - (k + 1)) b c v (z .back) (next-is ∙ row-none _ x e h))
 
   pub rows-turn : (y : ℕ) → x < 2048 → bit y ≡ with (bit (getD t (x / 64) 0)) (x % 64) → RowsTo b c v (k + 1) (set t (x / 64) y) (set a k x)
@@ -87,3 +89,34 @@ module _ (b : Book) (g : Good b) (c v : ℕ) (has-it : hasVersion (b .specs) c v
             (omega (arith, l, length-replicate {A = ℕ} 256 0))
             ∙ ap (λ (r : List ℕ). filled r (replicate 256 0)) (sym (map-append rowNumber (z .above) (q ∷ [])));
       }
+
+-- ---- the rows that were found
+
+module _ (b : Book) (c v k : ℕ) (a : List ℕ) (z : AllRows b c v k a) where
+  row-count : length (map rowNumber (parts b c v)) ≡ k
+  row-count = length-map (parts b c v) rowNumber ∙ sym (z .count)
+
+  pub rows-within : k ≤ length a
+  rows-within =
+      let e : length a ≡ length (replicate {A = ℕ} 256 0) = ap length (z .array)
+      ∙ filled-length (map rowNumber (parts b c v)) (replicate 256 0) (omega (arith, row-count, z .few, length-replicate {A = ℕ} 256 0)) in
+      omega (arith, e, z .few, length-replicate {A = ℕ} 256 0)
+
+  pub rows-are : take k a ≡ map rowNumber (parts b c v)
+  unfolding filled
+  rows-are = ap (take k) (z .array) ∙ take-at (map rowNumber (parts b c v)) _ k row-count
+
+-- ---- the loop that writes them
+
+pub write-start : (a old : List ℕ) → old ≡ filled (take 0 a) old
+unfolding filled
+write-start a old = refl
+
+pub write-turn : (a old out : List ℕ) (i : ℕ) → i < length a → i < length old → out ≡ filled (take i a) old → set out i (getD a i 0) ≡ filled (take (i + 1) a) old
+write-turn a old out i l h e =
+    ap (λ (o : List ℕ). set o i (getD a i 0)) e
+    ∙ filled-set 0 (take i a) old i (getD a i 0) (sym (length-take-le i a (omega (arith, l)))) h
+    ∙ ap (λ (x : List ℕ). filled x old) (sym (take-suc a i 0 l) ∙ ap (λ (n : ℕ). take n a) (sym (add-one i)))
+
+pub write-end : (a old out : List ℕ) (i n : ℕ) → i ≤ n → n ≤ i → out ≡ filled (take i a) old → out ≡ filled (take n a) old
+write-end a old out i n h k e = e ∙ ap (λ (m : ℕ). filled (take m a) old) (le-antisymm h k)

@@ -1,7 +1,7 @@
 -- The rows of a parts list, as they are found one after another.
 use mathlib.Core.List.{List, _++_, map}
 use mathlib.Core.Path.{_≡_}
-use Prim.Native.Nat.{_-_, ℕ}
+use Prim.Native.Nat.{_-_, _≤_, ℕ}
 use lib.ListN.{length, replicate}
 use Rattle.model.specs.Book.{Book, Pair}
 use Rattle.model.specs.PartsList.{listed, parts, rowsFrom}
@@ -22,4 +22,5 @@ pub record RowsTo (b : Book) (c v k : ℕ) (t a : List ℕ) : Type 0 where
 -- the whole list stands at the start of the array a, and has k rows
 pub record AllRows (b : Book) (c v k : ℕ) (a : List ℕ) : Type 0 where
   pub count : k ≡ length (parts b c v)
+  pub few : k ≤ 256
   pub array : a ≡ filled (map rowNumber (parts b c v)) (replicate 256 0)

@@ -1,19 +1,29 @@
 // The parts list of a stored version, written into a lent slice.
 ghost use mathlib.Core.Path.{_≡_};
 ghost use mathlib.Core.Bool.{true};
-ghost use Prim.Native.Nat.{_<_};
+ghost use Prim.Native.Nat.{_+_, _<_, _≤_};
 ghost use Rattle.book.specs.Plain.{plainOf};
 ghost use Rattle.model.specs.Book.{hasVersion};
 ghost use Rattle.theorems.specs.Good.{Good};
 ghost use Rattle.model.specs.Book.{isMember};
-ghost use Rattle.model.specs.PartsList.{firstPair};
+ghost use Rattle.model.specs.PartsList.{firstPair, howManySystems};
 ghost use Rattle.sets.specs.Sets as sets;
 ghost use Rattle.sets.specs.Sets.{bit};
-ghost use lib.ListN.{getD};
+ghost use lib.ListN.{take, length};
+ghost use Rattle.seqs.specs.Filled.{filled};
+ghost use Rattle.rules.specs.Test as test;
+ghost use Rattle.parts.specs.Listed.{Listed};
 ghost use Rattle.parts.specs.Marks.{Closed, Marked, PartsIn};
 ghost use Rattle.parts.specs.Rows.{AllRows};
 ghost use Rattle.parts.specs.Due.{memberIn, membersIn, dueIn, firstVersion, numberOf};
 use book::Book;
+
+// What the call gives back: its answer, 0 where the list is in the slice, how many rows it has, and a depth.
+pub struct PartsList {
+    pub answer: u8,
+    pub rows: usize,
+    pub depth: usize,
+}
 
 // The rows of a list, and how many they are.
 struct Rows {
@@ -184,5 +194,102 @@ fn rows_of<'a>(sets: &'a [u64; 576], numbers: &'a [u8; 8768], c: usize, v: usize
         listed[x / 64] = sets::with(listed[x / 64], x % 64);
         row[k] = x as u16;
     }
-    Rows { row: row, count: 256 }
+    Rows {
+        row: row,
+        count: 256,
+    }
+}
+
+// The first rows of the array are written into the slice.
+fn write_rows(out: &mut [u16], row: &[u16; 256], count: usize)
+    requires { ⌜ (count ≤ length (now row)) × (count ≤ length (now out)) × (count ≤ 256) ⌝ }
+    ensures { λ r. ⌜ now (out .exit) ≡ filled (take count (now (row .entry))) (now (out .entry)) ⌝ }
+{
+    for i in 0..count {
+        out[i] = row[i];
+    }
+}
+
+// The number of systems plus one: no chain is longer.
+fn most_depth<'a>(sets: &'a [u64; 576], numbers: &'a [u8; 8768]) -> usize
+    ensures { λ r. ⌜ r ≡ howManySystems (plainOf (now (sets .entry)) (now (numbers .entry)) .systems) + 1 ⌝ }
+{
+    let mut n: usize = 0;
+    for s in 0..32 {
+        if book::is_system(sets, numbers, s) {
+            n += 1;
+        }
+    }
+    n + 1
+}
+
+// ---- the call
+
+// The parts list of version v of c, on a Book that passes the test for 25.
+pub fn parts_in<'a>(
+    sets: &'a [u64; 576],
+    numbers: &'a [u8; 8768],
+    c: usize,
+    v: usize,
+    out: &mut [u16],
+) -> PartsList
+    requires { ⌜ test.passes (now sets) (now numbers) ≡ true ⌝ }
+    ensures { λ r. ⌜ Listed (now (sets .entry)) (now (numbers .entry)) c v (now (out .entry)) (r .answer) (r .rows) (r .depth) (now (out .exit)) ⌝ }
+{
+    if 32 <= c {
+        return PartsList {
+            answer: 1,
+            rows: 0,
+            depth: 0,
+        };
+    }
+    if 64 <= v {
+        return PartsList {
+            answer: 1,
+            rows: 0,
+            depth: 0,
+        };
+    }
+    if !book::is_specified(sets, numbers, c) {
+        return PartsList {
+            answer: 4,
+            rows: 0,
+            depth: 0,
+        };
+    }
+    if !book::has_version(sets, numbers, c, v) {
+        return PartsList {
+            answer: 10,
+            rows: 0,
+            depth: 0,
+        };
+    }
+    let found = rows_of(sets, numbers, c, v);
+    if out.len() < found.count {
+        return PartsList {
+            answer: 22,
+            rows: 0,
+            depth: 0,
+        };
+    }
+    write_rows(out, &found.row, found.count);
+    PartsList {
+        answer: 0,
+        rows: found.count,
+        depth: most_depth(sets, numbers),
+    }
+}
+
+// The parts list of version v of c, on any Book.
+pub fn parts(b: Book, c: usize, v: usize, out: &mut [u16]) -> PartsList
+    ensures { λ r. ⌜ Listed (b .sets) (b .numbers) c v (now (out .entry)) (r .answer) (r .rows) (r .depth) (now (out .exit)) ⌝ }
+{
+    if !rules::passes(&b.sets, &b.numbers) {
+        return PartsList {
+            answer: 25,
+            rows: 0,
+            depth: 0,
+        };
+    }
+    parts_in(&b.sets, &b.numbers, c, v, out)
 }

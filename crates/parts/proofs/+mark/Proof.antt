@@ -68,8 +68,10 @@ mark-requires t c κs =
     let start = at-loop .before .before .before .before .before in (
       walk-falls (plainOf (start .args .sets .now) (start .args .numbers .now)) (start .pre .1 .1 .0) _ _ _ _ _ (start .pre .0)
           (at-loop .before .members .ensures) (c .before .before .before .member2 .ensures) (c .before .before .if2 .taken),
-      (walk-limits (plainOf (start .args .sets .now) (start .args .numbers .now)) (start .pre .1 .1 .0) _ _ _ _ (c .before .member-version .ensures),
-      (start .pre .1 .1 .0, at-loop .loop .inv .1 .onto .closed)),
+      (
+        walk-limits (plainOf (start .args .sets .now) (start .args .numbers .now)) (start .pre .1 .1 .0) _ _ _ _ (c .before .member-version .ensures),
+        (start .pre .1 .1 .0, at-loop .loop .inv .1 .onto .closed),
+      ),
     )
 
 loop-again : (t : ℕ) → mark-lts.Need-loop-again (callees t) (at-call t) mark.Post Inv-loop μ-loop

@@ -1,19 +1,17 @@
 -- Demand 3 of the call for a parts list.
 use mathlib.Core.Bool.{true}
-use mathlib.Core.List.{List, map}
-use mathlib.Core.Path.{_∙_, _≡_, sym}
+use mathlib.Core.List.{List}
+use mathlib.Core.Path.{_∙_, _≡_}
 use Prim.Native.Nat.{_<_, _≤_, ℕ}
 use native.Mathlib.Nat.{le-trans}
 use lib.ListN.{length}
 use Rattle.book.specs.Plain.{plainOf}
 use Rattle.model.specs.Book.{hasVersion}
-use Rattle.model.specs.PartsList.{howManySystems, longestChain, parts}
 use Rattle.model.specs.Queries.{asked}
 use Rattle.model.specs.Questions.{firstNo}
-use Rattle.parts.specs.Listed.{Found, Listed, partsAnswer, partsAsked, rowNumber}
+use Rattle.parts.specs.Listed.{Found, Listed, partsAnswer, partsAsked}
 use Rattle.rules.specs.Test.{passes}
 use Rattle.rules.specs.TestLaws.{passes-plain}
-use Rattle.seqs.specs.Filled.{filled}
 use Rattle.sets.specs.TestLaws.{<?-in, and-in, if-true, ≤?-in}
 use Rattle.theorems.specs.Good.{passes→good, version-specified}
 use Rattle.theorems.specs.Meaning.{no-no}

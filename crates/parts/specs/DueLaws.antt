@@ -3,7 +3,7 @@ use mathlib.Core.Bool.{Bool, false, not, true}
 use mathlib.Core.List.{List}
 use mathlib.Core.Logic.{inl, inr}
 use mathlib.Core.Option.{Option, none, some}
-use mathlib.Core.Path.{_∙_, _≡_, ap, ap₂, fun-ext, refl, sym}
+use mathlib.Core.Path.{_∙_, _≡_, ap, fun-ext, refl, sym}
 use Prim.Native.Nat.{_%_, _*_, _+_, _-_, _/_, _<_, _≤_, suc, ℕ}
 use native.Mathlib.Omega.{arith}
 use lib.ListN.{getD}
@@ -11,16 +11,16 @@ use borrow.Author.Tests.{not-false, not-true}
 use Rattle.model.specs.Book.{Book, Pair, Systems, components, hasVersion, isMember, member, versions}
 use Rattle.model.specs.Lists.{firstFrom}
 use Rattle.model.specs.Maps.{elseTry, if-there, onlyIf, optionMap, orElse}
-use Rattle.model.specs.PartsList.{due, firstPair, isPart, listed, membersListed, nextRow}
+use Rattle.model.specs.PartsList.{due, firstPair, listed, membersListed, nextRow}
 use Rattle.parts.specs.Due.{dueIn, firstVersion, memberIn, membersIn, numberOf}
 use Rattle.parts.specs.Listed.{rowNumber}
 use Rattle.parts.specs.Marks.{PartsIn, marked}
-use Rattle.sets.specs.Sets.{Set, bit, minus}
-use Rattle.sets.specs.TestLaws.{all-cong, and-false, and-in, and-l, and-r, and-true, iff→≡}
-use Rattle.sets.specs.Tests.{_&_, all, ~_}
+use Rattle.sets.specs.Sets.{Set, bit, minus, subset}
+use Rattle.sets.specs.TestLaws.{all-cong, all-out, and-false, and-in, and-l, and-r, and-true, clash, iff→≡, imp-out, not-out}
+use Rattle.sets.specs.Tests.{_&_, ~_}
 use Rattle.theorems.specs.Good.{Good}
 use Rattle.theorems.specs.ListLaws.{firstFrom-some, only-some}
-use Rattle.theorems.specs.MapLaws.{if-there-cong, isSome-no, no-some, option?}
+use Rattle.theorems.specs.MapLaws.{if-there-cong, isSome-no, option?}
 use Rattle.theorems.specs.Parts.{part-has-version}
 
 -- ---- the members of a pair
@@ -76,6 +76,16 @@ module _ {A : Type 0} (n : ℕ) (f : ℕ → Option A) where
   unfolding firstFrom
   first-end i h a = let k : n - i ≡ 0 = omega arith in a ∙ ap (λ (x : ℕ). firstFrom x i f) k
 
+-- ---- the number of a row
+
+number-some : (o : Option Pair) (q : Pair) → o ≡ some q → numberOf o ≡ q .0 * 64 + q .1
+unfolding numberOf orElse optionMap rowNumber
+number-some o q e = ap numberOf e
+
+number-none : numberOf none ≡ 2048
+unfolding numberOf orElse optionMap
+number-none = refl
+
 -- ---- the first version of d that is due
 
 -- the loop has come to the version i: none below it passes the test
@@ -100,6 +110,16 @@ module _ (test : ℕ → ℕ → Bool) (d : ℕ) where
   unfolding VersionFrom firstVersion numberOf orElse optionMap
   version-end i h a = sym (ap numberOf (first-end 64 (λ w. onlyIf (test d w) (d, w)) i h a))
 
+-- the parts among the versions of d are all listed
+pub none-open : (Y : Systems) (m t : List ℕ) (d : ℕ) {b : Bool} → b ≡ subset 64 (bit (getD m d 0)) (bit (getD t d 0)) → b ≡ true
+    → 2048 ≡ numberOf (firstVersion (dueIn Y m t) d)
+unfolding firstVersion dueIn marked subset
+none-open Y m t d e y = elim (option? (firstVersion (dueIn Y m t) d)) [
+  | inl n ↦ sym (ap numberOf n ∙ number-none)
+  | inr q ↦ (let i = firstFrom-some versions 0 _ (q .0) (q .1) in let o = and-l _ _ (only-some _ _ (q .0) (i .2) .0) in
+      clash (imp-out _ _ (all-out 64 _ (sym e ∙ y) (i .0) (omega (arith, i .1))) (and-l _ _ o)) (not-out _ (and-r _ _ o)))
+]
+
 -- ---- the first pair that is due
 
 -- the loop has come to the component i: no pair of a lower one passes the test
@@ -118,14 +138,6 @@ module _ (test : ℕ → ℕ → Bool) where
       let i = firstFrom-some versions 0 _ q e in
       let z = only-some (test d (i .0)) (d, i .0) q (i .2) in
       (sym (ap (λ (x : Pair). x .0) (z .1)), omega (arith, i .1, ap (λ (x : Pair). x .1) (z .1)))
-
-  number-some : (o : Option Pair) (q : Pair) → o ≡ some q → numberOf o ≡ q .0 * 64 + q .1
-  unfolding numberOf orElse optionMap rowNumber
-  number-some o q e = ap numberOf e
-
-  number-none : numberOf none ≡ 2048
-  unfolding numberOf orElse optionMap
-  number-none = refl
 
   module _ (i x : ℕ) (l : i < 32) (a : PairFrom test i) (e : x ≡ numberOf (firstVersion test i)) where
     pub pair-turn : 2048 ≤ x → PairFrom test (i + 1)

@@ -1,5 +1,4 @@
 -- The contract of the parts list, over `model`'s definitions. A Book stands as its two arrays.
-use mathlib.Core.Bool.{true}
 use mathlib.Core.List.{List, [], _++_, _∷_, map}
 use mathlib.Core.Path.{_≡_}
 use Prim.Native.Nat.{_*_, _+_, _≤_, ℕ}
@@ -32,6 +31,12 @@ pub record Found (b : Book) (c v : ℕ) (old : List ℕ) (rows depth : ℕ) (out
   pub out-is : out ≡ filled (map rowNumber (parts b c v)) old
   pub at-least : longestChain (b .systems) c v ≤ depth
   pub at-most : depth ≤ howManySystems (b .systems) + 1
+
+-- what it hands back where the answer is n, another than 0
+pub record Refused (n a rows depth : ℕ) : Type 0 where
+  pub answer-is : a ≡ n
+  pub no-rows : rows ≡ 0
+  pub no-depth : depth ≡ 0
 
 -- The call for the parts of c, v on the Book s n and the slice old answers a, and leaves out in the slice.
 pub record Listed (s n : List ℕ) (c v : ℕ) (old : List ℕ) (a rows depth : ℕ) (out : List ℕ) : Type 0 where

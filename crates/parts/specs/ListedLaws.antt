@@ -1,24 +1,24 @@
 -- The answers of the call for a parts list, from its questions, and what it leaves in the slice.
 use mathlib.Core.Bool.{Bool, false, not, true}
-use mathlib.Core.List.{List, map}
-use mathlib.Core.Path.{_∙_, _≡_, ap, refl, subst, sym}
+use mathlib.Core.List.{List}
+use mathlib.Core.Path.{_∙_, _≡_, ap, refl, sym}
 use Prim.Native.Nat.{_+_, _<_, _≤_, suc, ℕ}
 use native.Mathlib.Omega.{arith}
 use lib.ListN.{length, take}
 use borrow.Author.Tests.{not-false, not-true}
-use Rattle.book.specs.Plain.{plainOf, specsOf, systemsOf}
+use Rattle.book.specs.Plain.{plainOf, systemsOf}
 use Rattle.model.specs.Book.{Book, hasVersion, specified}
-use Rattle.model.specs.PartsList.{howManySystems, parts}
+use Rattle.model.specs.PartsList.{howManySystems}
 use Rattle.model.specs.Queries.{asked}
 use Rattle.model.specs.Questions.{firstNo}
-use Rattle.parts.specs.Listed.{Listed, partsAnswer, partsAsked, rowNumber}
+use Rattle.parts.specs.Listed.{Listed, Refused, partsAnswer, partsAsked}
 use Rattle.parts.specs.RowLaws.{rows-are}
 use Rattle.parts.specs.Rows.{AllRows}
 use Rattle.rules.specs.Test.{passes}
 use Rattle.rules.specs.TestLaws.{passes-sound}
 use Rattle.seqs.specs.Filled.{filled}
 use Rattle.sets.specs.TestLaws.{<?-in, <?-out, and-false, and-in, and-true, fails, if-false, if-true, ≤?-in, ≤?-out}
-use Rattle.sets.specs.Tests.{_<?_, _≤?_}
+use Rattle.sets.specs.Tests.{_<?_}
 use Rattle.theorems.specs.Heights.{longest-chain}
 use Rattle.theorems.specs.Meaning.{first-no, no-no}
 use Rattle.theorems.specs.Notions.{no-here, none-left, yes-all, yes-here}
@@ -66,11 +66,12 @@ module _ (s n : List ℕ) (c v : ℕ) (old : List ℕ) (good : passes s n ≡ tr
   unfolding partsAnswer
   answer-is = if-true _ _ _ good
 
-  pub refuse : (m : ℕ) → firstNo (partsAsked (plainOf s n) c v (length old)) ≡ suc m → Listed s n c v old (suc m) 0 0 old
-  refuse m e = record {
-    answer-is = sym (answer-is ∙ e);
-    refused = λ _. (refl, refl, refl);
-    found = λ z. absurd (omega (arith, z));
+  pub refuse : (m : ℕ) {a rows depth : ℕ} → firstNo (partsAsked (plainOf s n) c v (length old)) ≡ suc m → Refused (suc m) a rows depth
+      → Listed s n c v old a rows depth old
+  refuse m e z = record {
+    answer-is = z .answer-is ∙ sym (answer-is ∙ e);
+    refused = λ _. (refl, z .no-rows, z .no-depth);
+    found = λ k. absurd (omega (arith, k, z .answer-is));
   }
 
   pub list : (k x : ℕ) (a out : List ℕ) → firstNo (partsAsked (plainOf s n) c v (length old)) ≡ 0 → AllRows (plainOf s n) c v k a
@@ -88,10 +89,11 @@ module _ (s n : List ℕ) (c v : ℕ) (old : List ℕ) (good : passes s n ≡ tr
   }
 
 -- a Book that is none
-pub refuse-25 : (s n : List ℕ) (c v : ℕ) (old : List ℕ) → passes s n ≡ false → Listed s n c v old 25 0 0 old
+pub refuse-25 : (s n : List ℕ) (c v : ℕ) (old : List ℕ) {a rows depth : ℕ} → passes s n ≡ false → Refused 25 a rows depth
+    → Listed s n c v old a rows depth old
 unfolding partsAnswer
-refuse-25 s n c v old e = record {
-  answer-is = sym (if-false _ _ _ e);
-  refused = λ _. (refl, refl, refl);
-  found = λ z. absurd (omega (arith, z));
+refuse-25 s n c v old e z = record {
+  answer-is = z .answer-is ∙ sym (if-false _ _ _ e);
+  refused = λ _. (refl, z .no-rows, z .no-depth);
+  found = λ k. absurd (omega (arith, k, z .answer-is));
 }

@@ -11,7 +11,6 @@ use lib.ListN.{getD, length, length-replicate, length-set, replicate, set}
 use lib.Seq.{getD-set-other, getD-set-same}
 use Rattle.model.specs.Book.{Book, Systems, hasVersion, isMember, member}
 use Rattle.model.specs.Limits.{SystemLimits}
-use Rattle.model.specs.PartsList.{isPart}
 use Rattle.parts.specs.Marks.{Closed, Marked, Marking, Onto, PartsIn, marked}
 use Rattle.sets.specs.SetLaws.{bit-zero}
 use Rattle.sets.specs.Sets.{Set, bit, with}

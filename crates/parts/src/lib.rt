@@ -2,20 +2,18 @@
 ghost use mathlib.Core.Path.{_≡_};
 ghost use mathlib.Core.Bool.{true};
 ghost use Prim.Native.Nat.{_+_, _<_, _≤_};
-ghost use Rattle.book.specs.Plain.{plainOf};
-ghost use Rattle.model.specs.Book.{hasVersion};
-ghost use Rattle.theorems.specs.Good.{Good};
-ghost use Rattle.model.specs.Book.{isMember};
-ghost use Rattle.model.specs.PartsList.{firstPair, howManySystems};
-ghost use Rattle.sets.specs.Sets as sets;
-ghost use Rattle.sets.specs.Sets.{bit};
 ghost use lib.ListN.{take, length};
+ghost use Rattle.sets.specs.Sets.{bit};
+ghost use Rattle.model.specs.Book.{hasVersion, isMember};
+ghost use Rattle.model.specs.PartsList.{firstPair, howManySystems};
+ghost use Rattle.theorems.specs.Good.{Good};
 ghost use Rattle.seqs.specs.Filled.{filled};
+ghost use Rattle.book.specs.Plain.{plainOf};
 ghost use Rattle.rules.specs.Test as test;
-ghost use Rattle.parts.specs.Listed.{Listed};
+ghost use Rattle.parts.specs.Listed.{Listed, Refused};
 ghost use Rattle.parts.specs.Marks.{Closed, Marked, PartsIn};
-ghost use Rattle.parts.specs.Rows.{AllRows};
 ghost use Rattle.parts.specs.Due.{memberIn, membersIn, dueIn, firstVersion, numberOf};
+ghost use Rattle.parts.specs.Rows.{AllRows};
 use book::Book;
 
 // What the call gives back: its answer, 0 where the list is in the slice, how many rows it has, and a depth.
@@ -149,6 +147,9 @@ fn next_version<'a>(
     requires { ⌜ Good (plainOf (now sets) (now numbers)) ⌝ }
     ensures { λ r. ⌜ r ≡ numberOf (firstVersion (dueIn (plainOf (now (sets .entry)) (now (numbers .entry)) .systems) (now (parts .entry)) (now (listed .entry))) d) ⌝ }
 {
+    if sets::subset(parts[d], listed[d]) {
+        return 2048;
+    }
     for w in 0..64 {
         if is_due(sets, numbers, d, w, parts, listed) {
             return d * 64 + w;
@@ -225,6 +226,16 @@ fn most_depth<'a>(sets: &'a [u64; 576], numbers: &'a [u8; 8768]) -> usize
 
 // ---- the call
 
+fn refused(answer: u8) -> PartsList
+    ensures { λ r. ⌜ Refused answer (r .answer) (r .rows) (r .depth) ⌝ }
+{
+    PartsList {
+        answer: answer,
+        rows: 0,
+        depth: 0,
+    }
+}
+
 // The parts list of version v of c, on a Book that passes the test for 25.
 pub fn parts_in<'a>(
     sets: &'a [u64; 576],
@@ -237,40 +248,20 @@ pub fn parts_in<'a>(
     ensures { λ r. ⌜ Listed (now (sets .entry)) (now (numbers .entry)) c v (now (out .entry)) (r .answer) (r .rows) (r .depth) (now (out .exit)) ⌝ }
 {
     if 32 <= c {
-        return PartsList {
-            answer: 1,
-            rows: 0,
-            depth: 0,
-        };
+        return refused(1);
     }
     if 64 <= v {
-        return PartsList {
-            answer: 1,
-            rows: 0,
-            depth: 0,
-        };
+        return refused(1);
     }
     if !book::is_specified(sets, numbers, c) {
-        return PartsList {
-            answer: 4,
-            rows: 0,
-            depth: 0,
-        };
+        return refused(4);
     }
     if !book::has_version(sets, numbers, c, v) {
-        return PartsList {
-            answer: 10,
-            rows: 0,
-            depth: 0,
-        };
+        return refused(10);
     }
     let found = rows_of(sets, numbers, c, v);
     if out.len() < found.count {
-        return PartsList {
-            answer: 22,
-            rows: 0,
-            depth: 0,
-        };
+        return refused(22);
     }
     write_rows(out, &found.row, found.count);
     PartsList {
@@ -285,11 +276,7 @@ pub fn parts(b: Book, c: usize, v: usize, out: &mut [u16]) -> PartsList
     ensures { λ r. ⌜ Listed (b .sets) (b .numbers) c v (now (out .entry)) (r .answer) (r .rows) (r .depth) (now (out .exit)) ⌝ }
 {
     if !rules::passes(&b.sets, &b.numbers) {
-        return PartsList {
-            answer: 25,
-            rows: 0,
-            depth: 0,
-        };
+        return refused(25);
     }
     parts_in(&b.sets, &b.numbers, c, v, out)
 }

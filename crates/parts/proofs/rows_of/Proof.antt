@@ -15,12 +15,12 @@ abbrev μ-loop : tie.MeasureT-loop
 
 returns : tie.Need-returns Inv-loop μ-loop
 returns c =
-    rows-end _ (c .before .before .before .before .before .before .before .pre .1 .0) _ _ (c .before .before .before .before .before .before .before .pre .1 .1) _ (c .before .before .before .before .before .before .parts-of .ensures) _ _ _ _ (c .before .before .before .before .before .loop .inv .1) (c .before .before .before .before .loop-test .taken) (c .before .next-row .ensures) (c .if1 .taken)
+    rows-end _ (c .before .before .before .before .before .before .before .pre .1 .0) _ _ (c .before .before .before .before .before .before .before .pre .1 .1) _ (c .before .before .before .before .before .before .parts-of .ensures) _ _ _ _ (c .before .before .before .before .before .loop .inv .1) (omega (arith, c .before .before .before .before .loop-test .taken)) (c .before .next-row .ensures) (c .if1 .taken)
 
 loop-again : tie.Need-loop-again Inv-loop μ-loop
 loop-again c = (
   omega arith,
-  rows-turn _ (c .before .before .before .before .before .before .before .before .pre .1 .0) _ _ (c .before .before .before .before .before .before .before .before .pre .1 .1) _ (c .before .before .before .before .before .before .before .parts-of .ensures) _ _ _ _ (c .before .before .before .before .before .before .loop .inv .1) (c .before .before .before .before .before .loop-test .taken) (c .before .before .next-row .ensures) _ (omega (arith, c .before .if1 .left)) (c .with .ensures),
+  rows-turn _ (c .before .before .before .before .before .before .before .before .pre .1 .0) _ _ (c .before .before .before .before .before .before .before .before .pre .1 .1) _ (c .before .before .before .before .before .before .before .parts-of .ensures) _ _ _ _ (c .before .before .before .before .before .before .loop .inv .1) (omega (arith, c .before .before .before .before .before .loop-test .taken)) (c .before .before .next-row .ensures) _ (omega (arith, c .before .if1 .left)) (c .with .ensures),
 )
 
 pub rows-of-spec : {M : Type 1} → statement M

@@ -2,10 +2,12 @@
 use mathlib.Core.Bool.{Bool}
 use mathlib.Core.List.{List}
 use mathlib.Core.Option.{Option}
-use Prim.Native.Nat.{ℕ}
+use mathlib.Core.Path.{_≡_}
+use Prim.Native.Nat.{_-_, ℕ}
 use Rattle.model.specs.Book.{Pair, Systems, components, member, versions}
 use Rattle.model.specs.Lists.{firstFrom}
 use Rattle.model.specs.Maps.{if-there, onlyIf, optionMap, orElse}
+use Rattle.model.specs.PartsList.{firstPair}
 use Rattle.parts.specs.Listed.{rowNumber}
 use Rattle.parts.specs.Marks.{marked}
 use Rattle.sets.specs.Tests.{_&_, all, ~_}
@@ -29,3 +31,11 @@ firstVersion test d = firstFrom versions 0 (λ w. onlyIf (test d w) (d, w))
 -- the number of the row that was found; no row has the number 2048
 unfoldable pub numberOf : Option Pair → ℕ
 numberOf o = orElse (optionMap rowNumber o) 2048
+
+-- A loop has come to the version i: none of d below it passes the test.
+unfoldable pub VersionFrom : (ℕ → ℕ → Bool) → ℕ → ℕ → Type 0
+VersionFrom test d i = firstVersion test d ≡ firstFrom (64 - i) i (λ w. onlyIf (test d w) (d, w))
+
+-- A loop has come to the component i: no pair of a lower one passes the test.
+unfoldable pub PairFrom : (ℕ → ℕ → Bool) → ℕ → Type 0
+PairFrom test i = firstPair test ≡ firstFrom (32 - i) i (firstVersion test)

@@ -12,7 +12,7 @@ use Rattle.model.specs.Book.{Book, Pair, Systems, components, hasVersion, isMem
 use Rattle.model.specs.Lists.{firstFrom}
 use Rattle.model.specs.Maps.{elseTry, if-there, onlyIf, optionMap, orElse}
 use Rattle.model.specs.PartsList.{due, firstPair, listed, membersListed, nextRow}
-use Rattle.parts.specs.Due.{dueIn, firstVersion, memberIn, membersIn, numberOf}
+use Rattle.parts.specs.Due.{PairFrom, VersionFrom, dueIn, firstVersion, memberIn, membersIn, numberOf}
 use Rattle.parts.specs.Listed.{rowNumber}
 use Rattle.parts.specs.Marks.{PartsIn, marked}
 use Rattle.sets.specs.Sets.{Set, bit, minus, subset}
@@ -88,10 +88,6 @@ number-none = refl
 
 -- ---- the first version of d that is due
 
--- the loop has come to the version i: none below it passes the test
-unfoldable pub VersionFrom : (ℕ → ℕ → Bool) → ℕ → ℕ → Type 0
-VersionFrom test d i = firstVersion test d ≡ firstFrom (64 - i) i (λ w. onlyIf (test d w) (d, w))
-
 module _ (test : ℕ → ℕ → Bool) (d : ℕ) where
   pub version-start : VersionFrom test d 0
   unfolding VersionFrom firstVersion
@@ -121,10 +117,6 @@ none-open Y m t d e y = elim (option? (firstVersion (dueIn Y m t) d)) [
 ]
 
 -- ---- the first pair that is due
-
--- the loop has come to the component i: no pair of a lower one passes the test
-unfoldable pub PairFrom : (ℕ → ℕ → Bool) → ℕ → Type 0
-PairFrom test i = firstPair test ≡ firstFrom (32 - i) i (firstVersion test)
 
 module _ (test : ℕ → ℕ → Bool) where
   pub pair-start : PairFrom test 0

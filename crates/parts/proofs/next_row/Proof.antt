@@ -2,8 +2,8 @@ use borrow.Author.Needs.{needs}
 use native.Mathlib.Omega.{arith}
 use Prim.Native.Nat.{_≤_, _-_}
 use Rattle.book.specs.Plain.{systemsOf}
-use Rattle.parts.specs.Due.{dueIn}
-use Rattle.parts.specs.DueLaws.{PairFrom, pair-start, pair-turn, pair-stop, pair-end}
+use Rattle.parts.specs.Due.{PairFrom, dueIn}
+use Rattle.parts.specs.DueLaws.{pair-start, pair-turn, pair-stop, pair-end}
 use Rattle.parts.proofs.next_row.Statement.{statement}
 use Rattle.parts.proofs.next_row.Tie as tie
 

@@ -2,8 +2,8 @@ use borrow.Author.Needs.{needs}
 use native.Mathlib.Omega.{arith}
 use Prim.Native.Nat.{_≤_, _-_}
 use Rattle.book.specs.Plain.{systemsOf}
-use Rattle.parts.specs.Due.{dueIn}
-use Rattle.parts.specs.DueLaws.{VersionFrom, none-open, version-start, version-turn, version-stop, version-end}
+use Rattle.parts.specs.Due.{VersionFrom, dueIn}
+use Rattle.parts.specs.DueLaws.{none-open, version-start, version-turn, version-stop, version-end}
 use Rattle.parts.proofs.next_version.Statement.{statement}
 use Rattle.parts.proofs.next_version.Tie as tie
 

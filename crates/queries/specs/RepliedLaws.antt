@@ -1,0 +1,82 @@
+-- How a query's questions, asked one after the other, give its reply.
+use mathlib.Core.Bool.{Bool, false, not, true}
+use mathlib.Core.List.{List, [], _∷_}
+use mathlib.Core.Path.{_∙_, _≡_, ap, refl, sym}
+use Prim.Native.Nat.{_<_, _≤_, suc, zero, ℕ}
+use native.Mathlib.Omega.{arith}
+use borrow.Author.Tests.{not-false, not-true}
+use Rattle.book.specs.Plain.{plainOf}
+use Rattle.commands.specs.OutcomeLaws.{no-at, too-large, yes-at}
+use Rattle.model.specs.Book.{Book, components, hasVersion, specified, versions}
+use Rattle.model.specs.Queries.{Query, Reply, asked, found, refused, reply}
+use Rattle.model.specs.Questions.{Question, firstNo}
+use Rattle.queries.specs.Replied.{Replied, ofComponent, ofPair, repliedTo}
+use Rattle.rules.specs.Test.{passes}
+use Rattle.sets.specs.TestLaws.{<?-in, <?-no, ==-not, ==-same, bool?, if-false, if-true}
+use mathlib.Core.Logic.{inl, inr}
+use Rattle.sets.specs.TestLaws.{<?-out}
+use Rattle.sets.specs.Tests.{_<?_, _==_, if_then_else_}
+
+-- ---- the reply from the number of the first no
+
+module _ (read : ℕ → Reply) (r : Reply) where
+  pub refuses : (a : ℕ) → (a ≡ 0 → ⊥) → refused a ≡ r → Replied read a 0 r
+  refuses a ne e = record { is = if-false _ _ _ (==-not a 0 ne) ∙ e; nothing = λ _. refl }
+
+  pub accepts : (x : ℕ) → read x ≡ r → Replied read 0 x r
+  accepts x e = record { is = if-true _ _ _ (==-same 0) ∙ e; nothing = λ ne. absurd (ne refl) }
+
+reply-no : (b : Book) (q : Query) (a : ℕ) → firstNo (asked b q) ≡ a → (a ≡ 0 → ⊥) → reply b q ≡ refused a
+unfolding reply
+reply-no b q zero e ne = absurd (ne refl)
+reply-no b q (suc m) e ne = ap (λ (k : ℕ). elim k [ zero ↦ found b q | suc n ↦ refused (suc n) ]) e
+
+reply-yes : (b : Book) (q : Query) → firstNo (asked b q) ≡ 0 → reply b q ≡ found b q
+unfolding reply
+reply-yes b q e = ap (λ (k : ℕ). elim k [ zero ↦ found b q | suc n ↦ refused (suc n) ]) e
+
+module _ (s n : List ℕ) (q : Query) where
+  pub to-reply : passes s n ≡ true → repliedTo s n q ≡ reply (plainOf s n) q
+  unfolding repliedTo
+  to-reply good = if-true _ _ _ good
+
+  pub to-found : passes s n ≡ true → firstNo (asked (plainOf s n) q) ≡ 0 → repliedTo s n q ≡ found (plainOf s n) q
+  to-found good e = to-reply good ∙ reply-yes (plainOf s n) q e
+
+  pub to-refused : passes s n ≡ true → (a : ℕ) → a ≡ firstNo (asked (plainOf s n) q) → (a ≡ 0 → ⊥) → repliedTo s n q ≡ refused a
+  to-refused good a e ne = to-reply good ∙ reply-no (plainOf s n) q a (sym e) ne
+
+  -- a Book that is none
+  pub to-25 : passes s n ≡ false → repliedTo s n q ≡ refused 25
+  unfolding repliedTo
+  to-25 bad = if-false _ _ _ bad
+
+module _ (read : ℕ → Reply) (s n : List ℕ) (q : Query) where
+  pub refuse-25 : {r : Bool} → r ≡ passes s n → not r ≡ true → Replied read 25 0 (repliedTo s n q)
+  refuse-25 {r} e t = refuses read _ 25 (λ z. omega (arith, z)) (sym (to-25 s n q (sym e ∙ not-true r t)))
+
+  module _ (good : passes s n ≡ true) where
+    pub refuse : (a : ℕ) → a ≡ firstNo (asked (plainOf s n) q) → (a ≡ 0 → ⊥) → Replied read a 0 (repliedTo s n q)
+    refuse a e ne = refuses read _ a ne (sym (to-refused s n q good a e ne))
+
+    pub accept : (x : ℕ) → firstNo (asked (plainOf s n) q) ≡ 0 → read x ≡ found (plainOf s n) q → Replied read 0 x (repliedTo s n q)
+    accept x y e = accepts read _ x (e ∙ sym (to-found s n q good y))
+
+-- ---- the questions 1 and 4
+
+module _ (b : Book) (c : ℕ) where
+  pub component-1 : 32 ≤ c → 1 ≡ firstNo (ofComponent b c)
+  unfolding ofComponent
+  component-1 h = sym (no-at 1 _ _ (too-large _ _ h))
+
+  pub component-4 : {r : Bool} → c < 32 → r ≡ specified (b .specs) c → not r ≡ true → 4 ≡ firstNo (ofComponent b c)
+  unfolding ofComponent
+  component-4 {r} h e t = sym (yes-at 1 _ _ (<?-in _ _ h) ∙ no-at 4 _ _ (sym e ∙ not-true r t))
+
+  pub component-0 : {r : Bool} → c < 32 → r ≡ specified (b .specs) c → not r ≡ false → 0 ≡ firstNo (ofComponent b c)
+  unfolding ofComponent
+  component-0 {r} h e t = sym (yes-at 1 _ _ (<?-in _ _ h) ∙ yes-at 4 _ _ (sym e ∙ not-false r t) ∙ (unfold firstNo in refl))
+
+  -- a component of which 1 is not the answer
+  pub component-low : (a : ℕ) → a ≡ firstNo (ofComponent b c) → a ≡ 0 → c < 32
+  component-low a e z = elim (bool? (c <? 32)) [ inl y ↦ <?-out _ _ y | inr w ↦ absurd (omega (arith, e, z, component-1 (<?-no _ _ w))) ]

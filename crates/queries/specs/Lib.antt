@@ -1,3 +1,5 @@
 pub mod Replied
 pub mod RepliedLaws
 pub mod QueryLaws
+pub mod CollectLaws
+pub mod FoundLaws

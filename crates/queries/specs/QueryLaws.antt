@@ -1,14 +1,15 @@
 -- The replies of the queries, from what their functions find.
 use mathlib.Core.Bool.{true}
 use mathlib.Core.List.{List}
-use mathlib.Core.Path.{_∙_, _≡_, ap, sym}
+use mathlib.Core.Path.{_∙_, _≡_, ap, refl, sym}
 use Prim.Native.Nat.{ℕ}
 use Rattle.book.specs.Plain.{plainOf, specsOf}
 use Rattle.model.specs.Book.{facilities, provides, standard}
 use Rattle.model.specs.Lists.{rising}
-use Rattle.model.specs.Queries.{Query, Reply, STANDARD, SUPPLIES, asked, found, theFacilities, theVersion}
+use Rattle.model.specs.Queries.{Query, Reply, STANDARD, SUPPLIES, UNDEFINED, UNUSED, WHEREUSED, asked, found, theComponents}
+use Rattle.model.specs.Queries.{theFacilities, theVersion, undefined, unused, whereUsed}
 use Rattle.model.specs.Questions.{firstNo}
-use Rattle.queries.specs.Replied.{Replied, facilitiesIn, numbersIn, ofComponent, repliedTo}
+use Rattle.queries.specs.Replied.{Replied, componentsIn, facilitiesIn, numbersIn, ofComponent, repliedTo}
 use Rattle.queries.specs.RepliedLaws.{accept, refuse}
 use Rattle.rules.specs.Test.{passes}
 use Rattle.sets.specs.Sets.{Set, bit}
@@ -31,3 +32,22 @@ module _ (s n : List ℕ) (c a : ℕ) (good : passes s n ≡ true) (ea : a ≡ f
   pub standard-yes : (x : ℕ) → a ≡ 0 → x ≡ standard (specsOf s n) c → Replied theVersion 0 x (repliedTo s n (STANDARD c))
   unfolding asked ofComponent found
   standard-yes x z e = accept theVersion s n (STANDARD c) good x (sym ea ∙ z) (ap theVersion e)
+
+  pub whereused-no : (a ≡ 0 → ⊥) → Replied componentsIn a 0 (repliedTo s n (WHEREUSED c))
+  unfolding asked ofComponent
+  whereused-no ne = refuse componentsIn s n (WHEREUSED c) good a ea ne
+
+  pub whereused-yes : (x : ℕ) → a ≡ 0 → numbersIn x ≡ whereUsed (plainOf s n) c → Replied componentsIn 0 x (repliedTo s n (WHEREUSED c))
+  unfolding asked ofComponent found componentsIn
+  whereused-yes x z e = accept componentsIn s n (WHEREUSED c) good x (sym ea ∙ z) (ap theComponents e)
+
+-- ---- of the whole book
+
+module _ (s n : List ℕ) (x : ℕ) (good : passes s n ≡ true) where
+  pub undefined-yes : numbersIn x ≡ undefined (plainOf s n) → Replied componentsIn 0 x (repliedTo s n UNDEFINED)
+  unfolding asked firstNo found componentsIn
+  undefined-yes e = accept componentsIn s n UNDEFINED good x refl (ap theComponents e)
+
+  pub unused-yes : numbersIn x ≡ unused (plainOf s n) → Replied componentsIn 0 x (repliedTo s n UNUSED)
+  unfolding asked firstNo found componentsIn
+  unused-yes e = accept componentsIn s n UNUSED good x refl (ap theComponents e)

@@ -3,13 +3,14 @@ use mathlib.Core.Bool.{true}
 use mathlib.Core.List.{List}
 use mathlib.Core.Path.{_∙_, _≡_, ap, refl, sym}
 use Prim.Native.Nat.{ℕ}
-use Rattle.book.specs.Plain.{plainOf, specsOf}
+use Rattle.book.specs.Plain.{plainOf, specsOf, systemsOf}
 use Rattle.model.specs.Book.{facilities, provides, standard}
 use Rattle.model.specs.Lists.{rising}
-use Rattle.model.specs.Queries.{Query, Reply, STANDARD, SUPPLIES, UNDEFINED, UNUSED, WHEREUSED, asked, found, theComponents}
+use Rattle.model.specs.Queries.{NEEDS, Query, Reply, STANDARD, SUPPLIES, UNDEFINED, UNUSED, WHEREUSED, asked, found, theComponents}
 use Rattle.model.specs.Queries.{theFacilities, theVersion, undefined, unused, whereUsed}
 use Rattle.model.specs.Questions.{firstNo}
-use Rattle.queries.specs.Replied.{Replied, componentsIn, facilitiesIn, numbersIn, ofComponent, repliedTo}
+use Rattle.model.specs.Rules.{needs}
+use Rattle.queries.specs.Replied.{Replied, componentsIn, facilitiesIn, numbersIn, ofComponent, ofPair, repliedTo}
 use Rattle.queries.specs.RepliedLaws.{accept, refuse}
 use Rattle.rules.specs.Test.{passes}
 use Rattle.sets.specs.Sets.{Set, bit}
@@ -40,6 +41,17 @@ module _ (s n : List ℕ) (c a : ℕ) (good : passes s n ≡ true) (ea : a ≡ f
   pub whereused-yes : (x : ℕ) → a ≡ 0 → numbersIn x ≡ whereUsed (plainOf s n) c → Replied componentsIn 0 x (repliedTo s n (WHEREUSED c))
   unfolding asked ofComponent found componentsIn
   whereused-yes x z e = accept componentsIn s n (WHEREUSED c) good x (sym ea ∙ z) (ap theComponents e)
+
+-- ---- of a component with a version
+
+module _ (s n : List ℕ) (c v a : ℕ) (good : passes s n ≡ true) (ea : a ≡ firstNo (ofPair (plainOf s n) c v)) where
+  pub needs-no : (a ≡ 0 → ⊥) → Replied facilitiesIn a 0 (repliedTo s n (NEEDS c v))
+  unfolding asked ofPair
+  needs-no ne = refuse facilitiesIn s n (NEEDS c v) good a ea ne
+
+  pub needs-yes : (x : ℕ) → a ≡ 0 → bit x ≡ needs (specsOf s n) (systemsOf s n) c v → Replied facilitiesIn 0 x (repliedTo s n (NEEDS c v))
+  unfolding asked ofPair found facilitiesIn numbersIn
+  needs-yes x z e = accept facilitiesIn s n (NEEDS c v) good x (sym ea ∙ z) (ap (λ (f : Set). theFacilities (rising facilities f)) e)
 
 -- ---- of the whole book
 

@@ -1,6 +1,7 @@
 -- How a query's questions, asked one after the other, give its reply.
 use mathlib.Core.Bool.{Bool, false, not, true}
 use mathlib.Core.List.{List, [], _∷_}
+use mathlib.Core.Logic.{inl, inr}
 use mathlib.Core.Path.{_∙_, _≡_, ap, refl, sym}
 use Prim.Native.Nat.{_<_, _≤_, suc, zero, ℕ}
 use native.Mathlib.Omega.{arith}
@@ -12,9 +13,7 @@ use Rattle.model.specs.Queries.{Query, Reply, asked, found, refused, reply}
 use Rattle.model.specs.Questions.{Question, firstNo}
 use Rattle.queries.specs.Replied.{Replied, ofComponent, ofPair, repliedTo}
 use Rattle.rules.specs.Test.{passes}
-use Rattle.sets.specs.TestLaws.{<?-in, <?-no, ==-not, ==-same, bool?, if-false, if-true}
-use mathlib.Core.Logic.{inl, inr}
-use Rattle.sets.specs.TestLaws.{<?-out}
+use Rattle.sets.specs.TestLaws.{<?-in, <?-no, <?-out, ==-not, ==-same, and-false, and-in, and-true, bool?, if-false, if-true}
 use Rattle.sets.specs.Tests.{_<?_, _==_, if_then_else_}
 
 -- ---- the reply from the number of the first no
@@ -80,3 +79,37 @@ module _ (b : Book) (c : ℕ) where
   -- a component of which 1 is not the answer
   pub component-low : (a : ℕ) → a ≡ firstNo (ofComponent b c) → a ≡ 0 → c < 32
   component-low a e z = elim (bool? (c <? 32)) [ inl y ↦ <?-out _ _ y | inr w ↦ absurd (omega (arith, e, z, component-1 (<?-no _ _ w))) ]
+
+-- ---- the questions 1, 4 and 10
+
+module _ (b : Book) (c v : ℕ) where
+  pub pair-1 : 32 ≤ c → 1 ≡ firstNo (ofPair b c v)
+  unfolding ofPair
+  pair-1 h = sym (no-at 1 _ _ (and-false _ _ (too-large _ _ h)))
+
+  -- a component of which 1 is not the answer
+  pub pair-low : (a : ℕ) → a ≡ firstNo (ofPair b c v) → a ≡ 0 → c < 32
+  pair-low a e z = elim (bool? (c <? 32)) [ inl y ↦ <?-out _ _ y | inr w ↦ absurd (omega (arith, e, z, pair-1 (<?-no _ _ w))) ]
+
+  module _ (c< : c < 32) where
+    pub pair-1v : 64 ≤ v → 1 ≡ firstNo (ofPair b c v)
+    unfolding ofPair
+    pair-1v h = sym (no-at 1 _ _ (and-true _ _ (<?-in _ _ c<) ∙ too-large _ _ h))
+
+    module _ (v< : v < 64) {r : Bool} (er : r ≡ specified (b .specs) c) where
+      past-1 : firstNo (ofPair b c v) ≡ firstNo ((4, specified (b .specs) c) ∷ (10, hasVersion (b .specs) c v) ∷ [])
+      unfolding ofPair
+      past-1 = yes-at 1 _ _ (and-in _ _ (<?-in _ _ c<) (<?-in _ _ v<))
+
+      pub pair-4 : not r ≡ true → 4 ≡ firstNo (ofPair b c v)
+      pair-4 t = sym (past-1 ∙ no-at 4 _ _ (sym er ∙ not-true r t))
+
+      module _ (y : not r ≡ false) {u : Bool} (eu : u ≡ hasVersion (b .specs) c v) where
+        past-4 : firstNo (ofPair b c v) ≡ firstNo ((10, hasVersion (b .specs) c v) ∷ [])
+        past-4 = past-1 ∙ yes-at 4 _ _ (sym er ∙ not-false r y)
+
+        pub pair-10 : not u ≡ true → 10 ≡ firstNo (ofPair b c v)
+        pair-10 t = sym (past-4 ∙ no-at 10 _ _ (sym eu ∙ not-true u t))
+
+        pub pair-0 : not u ≡ false → 0 ≡ firstNo (ofPair b c v)
+        pair-0 t = sym (past-4 ∙ yes-at 10 _ _ (sym eu ∙ not-false u t) ∙ (unfold firstNo in refl))

@@ -10,9 +10,9 @@ ghost use Rattle.rules.specs.Closure.{Rows};
 ghost use Rattle.book.specs.Plain.{plainOf};
 ghost use Rattle.rules.specs.Test as test;
 ghost use Rattle.model.specs.Questions.{firstNo};
-ghost use Rattle.model.specs.Queries.{SUPPLIES, STANDARD, UNDEFINED, UNUSED, WHEREUSED, theVersion};
+ghost use Rattle.model.specs.Queries.{SUPPLIES, NEEDS, STANDARD, UNDEFINED, UNUSED, WHEREUSED, theVersion};
 ghost use Rattle.model.specs.Queries as model;
-ghost use Rattle.queries.specs.Replied.{Replied, repliedTo, ofComponent, numbersIn, facilitiesIn, componentsIn};
+ghost use Rattle.queries.specs.Replied.{Replied, repliedTo, ofComponent, ofPair, numbersIn, facilitiesIn, componentsIn};
 ghost use Rattle.queries.specs.FoundLaws.{undefinedAt, used, unusedAt, usesAt};
 use book::Book;
 
@@ -45,6 +45,25 @@ fn asked_of_component<'a>(sets: &'a [u64; 576], numbers: &'a [u8; 8768], c: usiz
     }
     if !book::is_specified(sets, numbers, c) {
         return 4;
+    }
+    0
+}
+
+// The questions 1, 4 and 10.
+fn asked_of_pair<'a>(sets: &'a [u64; 576], numbers: &'a [u8; 8768], c: usize, v: usize) -> u8
+    ensures { λ r. ⌜ r ≡ firstNo (ofPair (plainOf (now (sets .entry)) (now (numbers .entry))) c v) ⌝ }
+{
+    if 32 <= c {
+        return 1;
+    }
+    if 64 <= v {
+        return 1;
+    }
+    if !book::is_specified(sets, numbers, c) {
+        return 4;
+    }
+    if !book::has_version(sets, numbers, c, v) {
+        return 10;
     }
     0
 }
@@ -156,6 +175,20 @@ pub fn supplies_in<'a>(sets: &'a [u64; 576], numbers: &'a [u8; 8768], c: usize) 
     Facilities { answer: 0, set: book::provides(sets, numbers, c) }
 }
 
+// NEEDS.
+pub fn needs_in<'a>(sets: &'a [u64; 576], numbers: &'a [u8; 8768], c: usize, v: usize) -> Facilities
+    requires { ⌜ test.passes (now sets) (now numbers) ≡ true ⌝ }
+    ensures { λ r. ⌜ Replied facilitiesIn (r .answer) (r .set) (repliedTo (now (sets .entry)) (now (numbers .entry)) (NEEDS c v)) ⌝ }
+{
+    let answer = asked_of_pair(sets, numbers, c, v);
+    if answer != 0 {
+        return Facilities { answer, set: 0 };
+    }
+    let mut table: [u64; 2080] = [0; 2080];
+    let set = rules::needs_of(sets, numbers, c, v, &mut table);
+    Facilities { answer: 0, set }
+}
+
 // STANDARD.
 pub fn standard_in<'a>(sets: &'a [u64; 576], numbers: &'a [u8; 8768], c: usize) -> Version
     requires { ⌜ test.passes (now sets) (now numbers) ≡ true ⌝ }
@@ -206,6 +239,16 @@ pub fn supplies(b: Book, c: usize) -> Facilities
         return Facilities { answer: 25, set: 0 };
     }
     supplies_in(&b.sets, &b.numbers, c)
+}
+
+// NEEDS, on any Book.
+pub fn needs(b: Book, c: usize, v: usize) -> Facilities
+    ensures { λ r. ⌜ Replied facilitiesIn (r .answer) (r .set) (repliedTo (b .sets) (b .numbers) (NEEDS c v)) ⌝ }
+{
+    if !rules::passes(&b.sets, &b.numbers) {
+        return Facilities { answer: 25, set: 0 };
+    }
+    needs_in(&b.sets, &b.numbers, c, v)
 }
 
 // STANDARD, on any Book.

@@ -3,3 +3,7 @@ pub mod RepliedLaws
 pub mod QueryLaws
 pub mod CollectLaws
 pub mod FoundLaws
+pub mod Listed
+pub mod RisingLaws
+pub mod ListedLaws
+pub mod ChoiceLaws

@@ -3,16 +3,21 @@
 ghost use mathlib.Core.Path.{_≡_};
 ghost use mathlib.Core.Bool.{true};
 ghost use mathlib.Core.List.{List};
-ghost use Prim.Native.Nat.{ℕ, _<_};
-ghost use lib.ListN.{getD};
+ghost use Prim.Native.Nat.{ℕ, _<_, _≤_};
+ghost use lib.ListN.{getD, length};
 ghost use Rattle.sets.specs.Sets.{bit};
+ghost use Rattle.sets.specs.Tests.{count};
+ghost use Rattle.model.specs.Lists.{rising};
+ghost use Rattle.seqs.specs.Filled.{filled};
 ghost use Rattle.rules.specs.Closure.{Rows};
 ghost use Rattle.book.specs.Plain.{plainOf};
 ghost use Rattle.rules.specs.Test as test;
 ghost use Rattle.model.specs.Questions.{firstNo};
-ghost use Rattle.model.specs.Queries.{SUPPLIES, NEEDS, STANDARD, UNDEFINED, UNUSED, WHEREUSED, theVersion};
+ghost use Rattle.model.specs.Queries.{SUPPLIES, NEEDS, CHOICE, STANDARD, UNDEFINED, UNUSED, WHEREUSED, theVersion};
 ghost use Rattle.model.specs.Queries as model;
 ghost use Rattle.queries.specs.Replied.{Replied, repliedTo, ofComponent, ofPair, numbersIn, facilitiesIn, componentsIn};
+ghost use Rattle.queries.specs.Listed.{Listed, fitted};
+ghost use Rattle.queries.specs.ChoiceLaws.{chosenAt, Chosen, rowIn};
 ghost use Rattle.queries.specs.FoundLaws.{undefinedAt, used, unusedAt, usesAt};
 use book::Book;
 
@@ -32,6 +37,12 @@ pub struct Components {
 pub struct Version {
     pub answer: u8,
     pub version: usize,
+}
+
+// The same of pairs: how many rows were written into the lent slice.
+pub struct Pairs {
+    pub answer: u8,
+    pub rows: usize,
 }
 
 // ---- questions
@@ -161,6 +172,73 @@ fn user_set<'a>(sets: &'a [u64; 576], numbers: &'a [u8; 8768], c: usize) -> u64
     found
 }
 
+// ---- pairs
+
+// The versions of c that are chosen: all where c provides the facilities wanted, else none.
+fn chosen_versions<'a>(sets: &'a [u64; 576], numbers: &'a [u8; 8768], c: usize, wanted: u64) -> u64
+    requires { ⌜ c < 32 ⌝ }
+    ensures { λ r. ⌜ bit r ≡ chosenAt (plainOf (now (sets .entry)) (now (numbers .entry)) .specs) (bit wanted) c ⌝ }
+{
+    if sets::subset(wanted, book::provides(sets, numbers, c)) {
+        return book::versions(sets, numbers, c);
+    }
+    0
+}
+
+// The versions of each component that are chosen.
+fn chosen_rows<'a>(sets: &'a [u64; 576], numbers: &'a [u8; 8768], wanted: u64) -> [u64; 32]
+    ensures { λ r. ⌜ Chosen (plainOf (now (sets .entry)) (now (numbers .entry)) .specs) (bit wanted) 32 r ⌝ }
+{
+    let mut out: [u64; 32] = [0; 32];
+    for c in 0..32 {
+        out[c] = chosen_versions(sets, numbers, c, wanted);
+    }
+    out
+}
+
+// Whether the pair of row k is chosen.
+fn is_chosen(chosen: &[u64; 32], k: usize) -> bool
+    requires { ⌜ k < 2048 ⌝ }
+    ensures { λ r. ⌜ r ≡ rowIn (now (chosen .entry)) k ⌝ }
+{
+    sets::member(chosen[k / 64], k % 64)
+}
+
+// How many pairs are chosen.
+fn count_rows(chosen: &[u64; 32]) -> usize
+    ensures { λ r. ⌜ r ≡ count 2048 (rowIn (now (chosen .entry))) ⌝ }
+{
+    let mut found = 0;
+    for k in 0..2048 {
+        if is_chosen(chosen, k) {
+            found += 1;
+        }
+    }
+    found
+}
+
+// The number of a row as it stands in the slice.
+fn row(k: usize) -> u16
+    requires { ⌜ k < 2048 ⌝ }
+    ensures { λ r. ⌜ r ≡ k ⌝ }
+{
+    k as u16
+}
+
+// Writes the pairs that are chosen.
+fn write_rows<'a>(chosen: &'a [u64; 32], out: &mut [u16])
+    requires { ⌜ count 2048 (rowIn (now chosen)) ≤ length (now out) ⌝ }
+    ensures { λ _. ⌜ now (out .exit) ≡ filled (rising 2048 (rowIn (now (chosen .entry)))) (now (out .entry)) ⌝ }
+{
+    let mut at = 0;
+    for k in 0..2048 {
+        if is_chosen(chosen, k) {
+            out[at] = row(k);
+            at += 1;
+        }
+    }
+}
+
 // ---- queries on a Book that passes the test for 25
 
 // SUPPLIES.
@@ -229,6 +307,26 @@ pub fn whereused_in<'a>(sets: &'a [u64; 576], numbers: &'a [u8; 8768], c: usize)
     Components { answer: 0, set: user_set(sets, numbers, c) }
 }
 
+// CHOICE, of a set of facilities.
+pub fn choice_in<'a>(
+    sets: &'a [u64; 576],
+    numbers: &'a [u8; 8768],
+    wanted: u64,
+    out: &mut [u16],
+) -> Pairs
+    requires { ⌜ test.passes (now sets) (now numbers) ≡ true ⌝ }
+    ensures { λ r. ⌜ Listed (now (out .entry)) (r .answer) (r .rows) (now (out .exit))
+        (fitted (length (now (out .entry))) (repliedTo (now (sets .entry)) (now (numbers .entry)) (CHOICE (numbersIn wanted)))) ⌝ }
+{
+    let chosen = chosen_rows(sets, numbers, wanted);
+    let rows = count_rows(&chosen);
+    if out.len() < rows {
+        return Pairs { answer: 22, rows: 0 };
+    }
+    write_rows(&chosen, out);
+    Pairs { answer: 0, rows }
+}
+
 // ---- the public calls
 
 // SUPPLIES, on any Book.
@@ -289,4 +387,15 @@ pub fn whereused(b: Book, c: usize) -> Components
         return Components { answer: 25, set: 0 };
     }
     whereused_in(&b.sets, &b.numbers, c)
+}
+
+// CHOICE, on any Book, of a set of facilities. A row is component × 64 + version.
+pub fn choice(b: Book, wanted: u64, out: &mut [u16]) -> Pairs
+    ensures { λ r. ⌜ Listed (now (out .entry)) (r .answer) (r .rows) (now (out .exit))
+        (fitted (length (now (out .entry))) (repliedTo (b .sets) (b .numbers) (CHOICE (numbersIn wanted)))) ⌝ }
+{
+    if !rules::passes(&b.sets, &b.numbers) {
+        return Pairs { answer: 25, rows: 0 };
+    }
+    choice_in(&b.sets, &b.numbers, wanted, out)
 }

@@ -1,35 +1,33 @@
 -- CHOICE: the pairs chosen as 32 sets of versions, as rows, and as the reply.
 use mathlib.Core.Bool.{Bool, false, not, true}
-use mathlib.Core.List.{List, [], map}
+use mathlib.Core.List.{List, map}
 use mathlib.Core.Logic.{inl, inr}
-use mathlib.Core.Path.{_∙_, _≡_, ap, ap₂, fun-ext, refl, sym}
+use mathlib.Core.Path.{_∙_, _≡_, ap, fun-ext, refl, sym}
 use Prim.Native.Nat.{_%_, _+_, _/_, _<_, _^_, _≤_, ℕ}
 use native.Mathlib.Nat.{not-suc-le-zero}
 use native.Mathlib.Omega.{arith}
-use lib.ListN.{getD, length, length-map, length-set, set}
+use lib.ListN.{length, length-map, length-set, set}
 use lib.Seq.{getD-set-other, getD-set-same}
 use borrow.Author.Tests.{not-true}
 use Rattle.book.specs.Plain.{plainOf, specsOf}
 use Rattle.commands.specs.OutcomeLaws.{yes-at}
 use Rattle.model.specs.Book.{Book, Pair, Specs, facilities, hasVersion, provides}
-use Rattle.model.specs.Queries.{CHOICE, Reply, asked, choice, found, risingPairs, thePairs}
+use Rattle.model.specs.Queries.{CHOICE, asked, choice, found, risingPairs, thePairs}
 use Rattle.model.specs.Questions.{firstNo}
-use Rattle.model.specs.Lists.{rising, setOf}
+use Rattle.model.specs.Lists.{rising}
+use Rattle.queries.specs.Found.{Chosen, chosenAt, flat, rowIn}
 use Rattle.queries.specs.Listed.{Listed, fitted, rowOf}
 use Rattle.queries.specs.ListedLaws.{list-full, list-refused, list-written}
 use Rattle.queries.specs.Replied.{numbersIn, repliedTo}
 use Rattle.queries.specs.RepliedLaws.{to-25, to-found}
-use Rattle.queries.specs.RisingLaws.{flat, numbers-below, numbers-set, rising-cong, rising-length, rows-flat}
+use Rattle.queries.specs.RowLaws.{rows-flat}
 use Rattle.rules.specs.Test.{passes}
 use Rattle.seqs.specs.Filled.{filled}
 use Rattle.sets.specs.SetLaws.{bit-zero}
 use Rattle.sets.specs.Sets.{Set, bit, subset}
 use Rattle.sets.specs.TestLaws.{and-false, and-swap, and-true, same?}
 use Rattle.sets.specs.Tests.{_&_, count}
-
--- line 17.2, of c: its versions where it provides all the facilities wanted, else none
-unfoldable pub chosenAt : Specs → Set → ℕ → Set
-chosenAt S w c v = hasVersion S c v & subset facilities w (provides S c)
+use Rattle.theorems.specs.RisingLaws.{rising-below, rising-cong, rising-length, rising-set}
 
 module _ (S : Specs) (w c p : ℕ) {t : Bool} (ep : bit p ≡ provides S c) (et : t ≡ subset 64 (bit w) (bit p)) where
   tested : subset 64 (bit w) (provides S c) ≡ t
@@ -44,11 +42,6 @@ module _ (S : Specs) (w c p : ℕ) {t : Bool} (ep : bit p ≡ provides S c) (et 
   chosen-no e = fun-ext (λ v. bit-zero v ∙ sym (and-swap _ _ ∙ and-false _ _ (tested ∙ e)))
 
 -- ---- a set of versions for each component
-
--- the first c of them
-pub record Chosen (S : Specs) (w : Set) (c : ℕ) (t : List ℕ) : Type 0 where
-  pub size : length t ≡ 32
-  pub row : (d : ℕ) → d < c → bit (getD t d 0) ≡ chosenAt S w d
 
 module _ (S : Specs) (w : Set) where
   pub chosen-start : (t : List ℕ) → length t ≡ 32 → Chosen S w 0 t
@@ -68,10 +61,6 @@ module _ (S : Specs) (w : Set) where
 
 -- ---- as rows
 
--- the pair of row k is chosen
-unfoldable pub rowIn : List ℕ → ℕ → Bool
-rowIn t k = bit (getD t (k / 64) 0) (k % 64)
-
 rows-chosen : (S : Specs) (w : Set) (t : List ℕ) → Chosen S w 32 t → rising 2048 (rowIn t) ≡ map rowOf (risingPairs (chosenAt S w))
 rows-chosen S w t k = rising-cong 2048 (rowIn t) (flat (chosenAt S w)) at ∙ sym (rows-flat (chosenAt S w))
   where
@@ -79,8 +68,8 @@ rows-chosen S w t k = rising-cong 2048 (rowIn t) (flat (chosenAt S w)) at ∙ sy
     at d l = unfold rowIn flat in ap (λ (a : Set). a (d % 64)) (k .row (d / 64) (omega arith))
 
 choice-is : (b : Book) (w : ℕ) → w < 2 ^ 64 → risingPairs (chosenAt (b .specs) (bit w)) ≡ choice b (numbersIn w)
-unfolding choice chosenAt
-choice-is b w h = ap (λ (a : Set). risingPairs (λ c v. hasVersion (b .specs) c v & subset facilities a (provides (b .specs) c))) (sym (numbers-set w h))
+unfolding choice chosenAt numbersIn
+choice-is b w h = ap (λ (a : Set). risingPairs (λ c v. hasVersion (b .specs) c v & subset facilities a (provides (b .specs) c))) (sym (rising-set w h))
 
 -- ---- as the reply
 
@@ -100,8 +89,8 @@ module _ (s n old : List ℕ) (w : ℕ) where
     count-is = em ∙ sym (rising-length 2048 (rowIn t)) ∙ ap length rows-are ∙ length-map pairs rowOf
 
     replied : repliedTo s n (CHOICE (numbersIn w)) ≡ thePairs pairs
-    unfolding asked found pairs
-    replied = to-found s n (CHOICE (numbersIn w)) good (yes-at 1 _ _ (numbers-below w) ∙ (unfold firstNo in refl))
+    unfolding asked found pairs numbersIn
+    replied = to-found s n (CHOICE (numbersIn w)) good (yes-at 1 _ _ (rising-below 64 (bit w)) ∙ (unfold firstNo in refl))
 
     pub choice-22 : length old < m → Listed old 22 0 old (fitted (length old) (repliedTo s n (CHOICE (numbersIn w))))
     choice-22 l = list-full old pairs replied m count-is l

@@ -1,8 +1,9 @@
--- The tests of one component that UNDEFINED, UNUSED and WHEREUSED put, and one law for each way out of the functions that put them.
+-- UNDEFINED, UNUSED and WHEREUSED: one law for each way out of the functions.
 use mathlib.Core.Bool.{Bool, false, not, true}
 use mathlib.Core.List.{List}
 use mathlib.Core.Path.{_∙_, _≡_, ap, fun-ext, refl, sym}
-use Prim.Native.Nat.{_+_, _<_, ℕ}
+use Prim.Native.Nat.{_+_, _<_, _≤_, ℕ}
+use native.Mathlib.Omega.{arith}
 use lib.ListN.{getD}
 use borrow.Author.Tests.{not-false, not-true}
 use Rattle.book.specs.Plain.{systemsOf}
@@ -11,18 +12,25 @@ use Rattle.model.specs.Book.{Book, Systems, isDefined, isModule, isSystem, spec
 use Rattle.model.specs.Lists.{rising}
 use Rattle.model.specs.Queries.{undefined, unused, whereUsed}
 use Rattle.model.specs.Questions.{usableInNone}
-use Rattle.model.specs.Rules.{reaches}
+use Rattle.queries.specs.Found.{undefinedAt, unusedAt, used, usesAt}
+use Rattle.queries.specs.Replied.{numbersIn}
 use Rattle.rules.specs.Closure.{Rows, via-reaches}
 use Rattle.sets.specs.LoopLaws.{union-turn}
-use Rattle.sets.specs.Sets.{Set, bit, union, unionBelow}
-use Rattle.sets.specs.TestLaws.{==-in, ==-not, all-in, all-out, and-false, and-true, any-in, any-out, clash, fails, iff→≡, not-in, not-out, or-false, or-l}
-use Rattle.sets.specs.Tests.{_&_, _==_, _or_, all, any, ~_}
+use Rattle.sets.specs.Sets.{Set, below, bit, union, unionBelow}
+use Rattle.sets.specs.TestLaws.{<?-in, <?-out, ==-in, ==-not, all-in, all-out, and-false, and-true, any-in, any-out, clash, fails, iff→≡, not-in, not-out, or-false, or-l}
+use Rattle.sets.specs.Tests.{_&_, _==_, _or_, ~_}
 use Rattle.theorems.specs.Heights.{usable-system}
+use Rattle.theorems.specs.RisingLaws.{rising-narrow}
+
+-- ---- the numbers that a loop collected
+
+pub collect-end : (f : ℕ → Bool) (i s : ℕ) → i ≤ 32 → 32 ≤ i → bit s ≡ below i f → numbersIn s ≡ rising 32 f
+unfolding numbersIn below
+collect-end f i s h k e = rising-narrow 32 64 (bit s) f (omega arith)
+    (λ d l. ap (λ (a : Set). a d) e ∙ and-true _ _ (<?-in _ _ (omega arith)))
+    (λ d l. ap (λ (a : Set). a d) e ∙ and-false _ _ (fails _ (λ t. omega (arith, <?-out _ _ t))))
 
 -- ---- UNDEFINED
-
-unfoldable pub undefinedAt : Book → ℕ → Bool
-undefinedAt b c = specified (b .specs) c & ~ isDefined (b .modules) (b .systems) c
 
 pub undefined-is : (b : Book) → rising 32 (undefinedAt b) ≡ undefined b
 unfolding undefined undefinedAt
@@ -47,13 +55,6 @@ module _ (b : Book) (c : ℕ) {r : Bool} (er : r ≡ specified (b .specs) c) whe
     undefined-last t ek = ap not ek ∙ sym (so-far ∙ ap not (or-false _ _ t))
 
 -- ---- UNUSED
-
--- the components that are usable in some system
-unfoldable pub used : Systems → Set
-used Y c = any 32 (λ s. usable Y s c)
-
-unfoldable pub unusedAt : Book → ℕ → Bool
-unusedAt b c = isModule (b .modules) c & ~ used (b .systems) c
 
 pub used-is : (Y : Systems) (x : ℕ) → bit x ≡ unionBelow 32 (usable Y) → bit x ≡ used Y
 unfolding used unionBelow
@@ -84,9 +85,6 @@ module _ (b : Book) (c : ℕ) {r : Bool} (er : r ≡ isModule (b .modules) c) wh
   unused-last x {k} t ex ek = ap not (ek ∙ ap (λ (a : Set). a c) ex) ∙ sym (and-true _ _ (sym er ∙ not-false r t))
 
 -- ---- WHEREUSED
-
-unfoldable pub usesAt : Systems → ℕ → ℕ → Bool
-usesAt Y c s = ~ (s == c) & reaches Y s c
 
 pub uses-is : (b : Book) (c : ℕ) → rising 32 (usesAt (b .systems) c) ≡ whereUsed b c
 unfolding whereUsed usesAt

@@ -1,9 +1,9 @@
 pub mod Replied
+pub mod Listed
+pub mod Found
 pub mod RepliedLaws
 pub mod QueryLaws
-pub mod CollectLaws
 pub mod FoundLaws
-pub mod Listed
-pub mod RisingLaws
+pub mod RowLaws
 pub mod ListedLaws
 pub mod ChoiceLaws

@@ -1,23 +1,23 @@
 -- How a reply and a lent slice give what a call hands back; and the laws of a loop that writes rows.
 use mathlib.Core.Bool.{Bool, false, true}
-use mathlib.Core.List.{List, [], _++_, map}
+use mathlib.Core.List.{List, map}
 use mathlib.Core.Logic.{inl, inr}
 use mathlib.Core.Path.{_∙_, _≡_, ap, ap₂, refl, subst, sym}
 use Prim.Native.Nat.{_+_, _<_, _≤_, suc, zero, ℕ}
 use native.Mathlib.Nat.{le-antisymm}
-use native.Mathlib.Numerals.{add-one}
 use native.Mathlib.Omega.{arith}
 use lib.ListN.{length, length-map, set}
 use Rattle.model.specs.Book.{Pair}
 use Rattle.model.specs.Lists.{from, rising}
 use Rattle.model.specs.Queries.{Reply, refused, thePairs}
+use Rattle.queries.specs.Found.{WrittenTo}
 use Rattle.queries.specs.Listed.{Listed, answerOf, fitted, rowOf, rowsOf}
-use Rattle.queries.specs.RisingLaws.{rising-hit, rising-length, rising-miss}
 use Rattle.seqs.specs.Filled.{filled}
 use Rattle.seqs.specs.FilledLaws.{filled-length, filled-none, filled-set}
 use Rattle.sets.specs.LoopLaws.{count-hit, count-miss, count-start}
 use Rattle.sets.specs.TestLaws.{≤?-in, ≤?-out, count-le, fails, if-false, if-true, one-if-up, same?}
 use Rattle.sets.specs.Tests.{_≤?_, count, one-if}
+use Rattle.theorems.specs.RisingLaws.{rising-hit, rising-length, rising-miss}
 
 -- ---- what a call hands back
 
@@ -66,11 +66,6 @@ count-up f (suc m) k l =
 hit : (f : ℕ → Bool) (k : ℕ) → f k ≡ true → count (suc k) f ≡ suc (count k f)
 unfolding count one-if
 hit f k e = ap (λ (b : Bool). one-if b (count k f)) e
-
--- the first k numbers are looked at: how many are written, what the slice holds
-pub record WrittenTo (f : ℕ → Bool) (old : List ℕ) (k a : ℕ) (out : List ℕ) : Type 0 where
-  pub at : a ≡ count k f
-  pub is : out ≡ filled (rising k f) old
 
 pub write-low : (f : ℕ → Bool) (old : List ℕ) (k a : ℕ) (out : List ℕ) → WrittenTo f old k a out → a ≤ k
 write-low f old k a out w = let e = w .at in let l = count-le k f in omega arith

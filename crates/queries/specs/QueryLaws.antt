@@ -6,7 +6,7 @@ use Prim.Native.Nat.{ℕ}
 use Rattle.book.specs.Plain.{plainOf, specsOf, systemsOf}
 use Rattle.model.specs.Book.{facilities, provides, standard}
 use Rattle.model.specs.Lists.{rising}
-use Rattle.model.specs.Queries.{NEEDS, Query, Reply, STANDARD, SUPPLIES, UNDEFINED, UNUSED, WHEREUSED, asked, found, theComponents}
+use Rattle.model.specs.Queries.{NEEDS, STANDARD, SUPPLIES, UNDEFINED, UNUSED, WHEREUSED, asked, found, theComponents}
 use Rattle.model.specs.Queries.{theFacilities, theVersion, undefined, unused, whereUsed}
 use Rattle.model.specs.Questions.{firstNo}
 use Rattle.model.specs.Rules.{needs}

@@ -8,13 +8,13 @@ use native.Mathlib.Omega.{arith}
 use borrow.Author.Tests.{not-false, not-true}
 use Rattle.book.specs.Plain.{plainOf}
 use Rattle.commands.specs.OutcomeLaws.{no-at, too-large, yes-at}
-use Rattle.model.specs.Book.{Book, components, hasVersion, specified, versions}
+use Rattle.model.specs.Book.{Book, hasVersion, specified}
 use Rattle.model.specs.Queries.{Query, Reply, asked, found, refused, reply}
-use Rattle.model.specs.Questions.{Question, firstNo}
+use Rattle.model.specs.Questions.{firstNo}
 use Rattle.queries.specs.Replied.{Replied, ofComponent, ofPair, repliedTo}
 use Rattle.rules.specs.Test.{passes}
 use Rattle.sets.specs.TestLaws.{<?-in, <?-no, <?-out, ==-not, ==-same, and-false, and-in, and-true, bool?, if-false, if-true}
-use Rattle.sets.specs.Tests.{_<?_, _==_, if_then_else_}
+use Rattle.sets.specs.Tests.{_<?_, _==_}
 
 -- ---- the reply from the number of the first no
 

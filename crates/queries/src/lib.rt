@@ -17,8 +17,7 @@ ghost use Rattle.model.specs.Queries.{SUPPLIES, NEEDS, CHOICE, STANDARD, UNDEFI
 ghost use Rattle.model.specs.Queries as model;
 ghost use Rattle.queries.specs.Replied.{Replied, repliedTo, ofComponent, ofPair, numbersIn, facilitiesIn, componentsIn};
 ghost use Rattle.queries.specs.Listed.{Listed, fitted};
-ghost use Rattle.queries.specs.ChoiceLaws.{chosenAt, Chosen, rowIn};
-ghost use Rattle.queries.specs.FoundLaws.{undefinedAt, used, unusedAt, usesAt};
+ghost use Rattle.queries.specs.Found.{undefinedAt, used, unusedAt, usesAt, chosenAt, Chosen, rowIn};
 use book::Book;
 
 // What a query for facilities gives back: its answer, 0 where it is accepted, and the facilities found.
@@ -60,8 +59,8 @@ fn asked_of_component<'a>(sets: &'a [u64; 576], numbers: &'a [u8; 8768], c: usiz
     0
 }
 
-// The questions 1, 4 and 10.
-fn asked_of_pair<'a>(sets: &'a [u64; 576], numbers: &'a [u8; 8768], c: usize, v: usize) -> u8
+// The questions 1, 4 and 10, which NEEDS and the parts list ask.
+pub fn asked_of_pair<'a>(sets: &'a [u64; 576], numbers: &'a [u8; 8768], c: usize, v: usize) -> u8
     ensures { λ r. ⌜ r ≡ firstNo (ofPair (plainOf (now (sets .entry)) (now (numbers .entry))) c v) ⌝ }
 {
     if 32 <= c {
@@ -209,8 +208,8 @@ fn count_rows(chosen: &[u64; 32]) -> usize
     ensures { λ r. ⌜ r ≡ count 2048 (rowIn (now (chosen .entry))) ⌝ }
 {
     let mut found = 0;
-    for k in 0..2048 {
-        if is_chosen(chosen, k) {
+    for pair in 0..2048 {
+        if is_chosen(chosen, pair) {
             found += 1;
         }
     }
@@ -250,7 +249,10 @@ pub fn supplies_in<'a>(sets: &'a [u64; 576], numbers: &'a [u8; 8768], c: usize) 
     if answer != 0 {
         return Facilities { answer, set: 0 };
     }
-    Facilities { answer: 0, set: book::provides(sets, numbers, c) }
+    Facilities {
+        answer: 0,
+        set: book::provides(sets, numbers, c),
+    }
 }
 
 // NEEDS.
@@ -276,7 +278,10 @@ pub fn standard_in<'a>(sets: &'a [u64; 576], numbers: &'a [u8; 8768], c: usize) 
     if answer != 0 {
         return Version { answer, version: 0 };
     }
-    Version { answer: 0, version: book::standard(sets, numbers, c) }
+    Version {
+        answer: 0,
+        version: book::standard(sets, numbers, c),
+    }
 }
 
 // UNDEFINED.
@@ -284,7 +289,10 @@ pub fn undefined_in<'a>(sets: &'a [u64; 576], numbers: &'a [u8; 8768]) -> Compon
     requires { ⌜ test.passes (now sets) (now numbers) ≡ true ⌝ }
     ensures { λ r. ⌜ Replied componentsIn (r .answer) (r .set) (repliedTo (now (sets .entry)) (now (numbers .entry)) UNDEFINED) ⌝ }
 {
-    Components { answer: 0, set: undefined_set(sets, numbers) }
+    Components {
+        answer: 0,
+        set: undefined_set(sets, numbers),
+    }
 }
 
 // UNUSED.
@@ -292,7 +300,10 @@ pub fn unused_in<'a>(sets: &'a [u64; 576], numbers: &'a [u8; 8768]) -> Component
     requires { ⌜ test.passes (now sets) (now numbers) ≡ true ⌝ }
     ensures { λ r. ⌜ Replied componentsIn (r .answer) (r .set) (repliedTo (now (sets .entry)) (now (numbers .entry)) UNUSED) ⌝ }
 {
-    Components { answer: 0, set: unused_set(sets, numbers) }
+    Components {
+        answer: 0,
+        set: unused_set(sets, numbers),
+    }
 }
 
 // WHEREUSED.
@@ -304,7 +315,10 @@ pub fn whereused_in<'a>(sets: &'a [u64; 576], numbers: &'a [u8; 8768], c: usize)
     if answer != 0 {
         return Components { answer, set: 0 };
     }
-    Components { answer: 0, set: user_set(sets, numbers, c) }
+    Components {
+        answer: 0,
+        set: user_set(sets, numbers, c),
+    }
 }
 
 // CHOICE, of a set of facilities.
@@ -321,7 +335,10 @@ pub fn choice_in<'a>(
     let chosen = chosen_rows(sets, numbers, wanted);
     let rows = count_rows(&chosen);
     if out.len() < rows {
-        return Pairs { answer: 22, rows: 0 };
+        return Pairs {
+            answer: 22,
+            rows: 0,
+        };
     }
     write_rows(&chosen, out);
     Pairs { answer: 0, rows }
@@ -354,7 +371,10 @@ pub fn standard(b: Book, c: usize) -> Version
     ensures { λ r. ⌜ Replied theVersion (r .answer) (r .version) (repliedTo (b .sets) (b .numbers) (STANDARD c)) ⌝ }
 {
     if !rules::passes(&b.sets, &b.numbers) {
-        return Version { answer: 25, version: 0 };
+        return Version {
+            answer: 25,
+            version: 0,
+        };
     }
     standard_in(&b.sets, &b.numbers, c)
 }
@@ -395,7 +415,10 @@ pub fn choice(b: Book, wanted: u64, out: &mut [u16]) -> Pairs
         (fitted (length (now (out .entry))) (repliedTo (b .sets) (b .numbers) (CHOICE (numbersIn wanted)))) ⌝ }
 {
     if !rules::passes(&b.sets, &b.numbers) {
-        return Pairs { answer: 25, rows: 0 };
+        return Pairs {
+            answer: 25,
+            rows: 0,
+        };
     }
     choice_in(&b.sets, &b.numbers, wanted, out)
 }

@@ -2,7 +2,8 @@ use Prim.Native.Nat.{ℕ}
 use borrow.Author.Needs.{needs}
 use native.Mathlib.Omega.{arith}
 use Prim.Native.Nat.{_≤_, _-_}
-use Rattle.queries.specs.ChoiceLaws.{Chosen, chosen-end, chosen-start, chosen-turn}
+use Rattle.queries.specs.Found.{Chosen}
+use Rattle.queries.specs.ChoiceLaws.{chosen-end, chosen-start, chosen-turn}
 use lib.ListN.{length-replicate}
 use Rattle.book.specs.Plain.{specsOf}
 use Rattle.sets.specs.Sets.{bit}

@@ -1,7 +1,7 @@
 use borrow.Author.Needs.{needs}
 use native.Mathlib.Omega.{arith}
 use Prim.Native.Nat.{_≤_, _-_}
-use Rattle.queries.specs.ChoiceLaws.{rowIn}
+use Rattle.queries.specs.Found.{rowIn}
 use Rattle.sets.specs.LoopLaws.{count-end, count-hit, count-miss, count-start}
 use Rattle.sets.specs.TestLaws.{count-le}
 use Rattle.sets.specs.Tests.{count}
@@ -11,13 +11,13 @@ use Rattle.queries.proofs.count_rows.Statement.{statement}
 use Rattle.queries.proofs.count_rows.Tie as tie
 
 abbrev Inv-loop : tie.InvT-loop
-Inv-loop chosen found₀ k₀ found k = (k ≤ 2048) × (found ≡ count k (rowIn chosen))
+Inv-loop chosen found₀ pair₀ found pair = (pair ≤ 2048) × (found ≡ count pair (rowIn chosen))
 
 abbrev μ-loop : tie.MeasureT-loop
-μ-loop chosen found₀ k₀ found k = 2048 - k
+μ-loop chosen found₀ pair₀ found pair = 2048 - pair
 
 add-found : tie.Need-add-found Inv-loop μ-loop
-add-found c = omega (arith, c .before .before .before .loop .inv .1, count-le (c .before .before .before .loop .k) (rowIn (c .before .before .before .before .args .chosen .now)))
+add-found c = omega (arith, c .before .before .before .loop .inv .1, count-le (c .before .before .before .loop .pair) (rowIn (c .before .before .before .before .args .chosen .now)))
 
 loop-again : tie.Need-loop-again Inv-loop μ-loop
 loop-again c = (

@@ -1,8 +1,9 @@
 use borrow.Author.Needs.{needs}
 use native.Mathlib.Omega.{arith}
 use Prim.Native.Nat.{_≤_, _-_}
-use Rattle.queries.specs.CollectLaws.{collect-start, collect-hit, collect-miss, collect-end}
-use Rattle.queries.specs.FoundLaws.{undefined-is, undefinedAt}
+use Rattle.sets.specs.LoopLaws.{collect-start, collect-hit, collect-miss}
+use Rattle.queries.specs.Found.{undefinedAt}
+use Rattle.queries.specs.FoundLaws.{collect-end, undefined-is}
 use Rattle.sets.specs.Sets as sets′
 use Rattle.sets.specs.Sets.{bit}
 use Rattle.book.specs.Plain.{plainOf}

@@ -1,8 +1,8 @@
 use borrow.Author.Needs.{needs}
 use native.Mathlib.Omega.{arith}
 use Prim.Native.Nat.{_≤_, _-_}
-use Rattle.queries.specs.ChoiceLaws.{rowIn}
-use Rattle.queries.specs.ListedLaws.{WrittenTo, write-end, write-hit, write-length, write-low, write-miss, write-room, write-start}
+use Rattle.queries.specs.Found.{WrittenTo, rowIn}
+use Rattle.queries.specs.ListedLaws.{write-end, write-hit, write-length, write-low, write-miss, write-room, write-start}
 use mathlib.Core.Logic.{⊎-elim}
 use Rattle.queries.proofs.write_rows.Statement.{statement}
 use Rattle.queries.proofs.write_rows.Tie as tie

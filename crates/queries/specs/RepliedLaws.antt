@@ -8,13 +8,13 @@ use native.Mathlib.Omega.{arith}
 use borrow.Author.Tests.{not-false, not-true}
 use Rattle.book.specs.Plain.{plainOf}
 use Rattle.commands.specs.OutcomeLaws.{no-at, too-large, yes-at}
-use Rattle.model.specs.Book.{Book, hasVersion, specified}
+use Rattle.model.specs.Book.{Book, components, hasVersion, specified, versions}
 use Rattle.model.specs.Queries.{Query, Reply, asked, found, refused, reply}
 use Rattle.model.specs.Questions.{firstNo}
 use Rattle.queries.specs.Replied.{Replied, ofComponent, ofPair, repliedTo}
 use Rattle.rules.specs.Test.{passes}
-use Rattle.sets.specs.TestLaws.{<?-in, <?-no, <?-out, ==-not, ==-same, and-false, and-in, and-true, bool?, if-false, if-true}
-use Rattle.sets.specs.Tests.{_<?_, _==_}
+use Rattle.sets.specs.TestLaws.{<?-in, <?-no, <?-out, ==-not, ==-same, and-false, and-swap, and-true, bool?, if-false, if-true}
+use Rattle.sets.specs.Tests.{_&_, _<?_, _==_}
 
 -- ---- the reply from the number of the first no
 
@@ -61,6 +61,10 @@ module _ (read : ℕ → Reply) (s n : List ℕ) (q : Query) where
     pub accept : (x : ℕ) → firstNo (asked (plainOf s n) q) ≡ 0 → read x ≡ found (plainOf s n) q → Replied read 0 x (repliedTo s n q)
     accept x y e = accepts read _ x (e ∙ sym (to-found s n q good y))
 
+nothing-asked : firstNo [] ≡ 0
+unfolding firstNo
+nothing-asked = refl
+
 -- ---- the questions 1 and 4
 
 module _ (b : Book) (c : ℕ) where
@@ -74,7 +78,7 @@ module _ (b : Book) (c : ℕ) where
 
   pub component-0 : {r : Bool} → c < 32 → r ≡ specified (b .specs) c → not r ≡ false → 0 ≡ firstNo (ofComponent b c)
   unfolding ofComponent
-  component-0 {r} h e t = sym (yes-at 1 _ _ (<?-in _ _ h) ∙ yes-at 4 _ _ (sym e ∙ not-false r t) ∙ (unfold firstNo in refl))
+  component-0 {r} h e t = sym (yes-at 1 _ _ (<?-in _ _ h) ∙ yes-at 4 _ _ (sym e ∙ not-false r t) ∙ nothing-asked)
 
   -- a component of which 1 is not the answer
   pub component-low : (a : ℕ) → a ≡ firstNo (ofComponent b c) → a ≡ 0 → c < 32
@@ -83,33 +87,50 @@ module _ (b : Book) (c : ℕ) where
 -- ---- the questions 1, 4 and 10
 
 module _ (b : Book) (c v : ℕ) where
-  pub pair-1 : 32 ≤ c → 1 ≡ firstNo (ofPair b c v)
+  pub pair-1 : 64 ≤ v → 1 ≡ firstNo (ofPair b c v)
   unfolding ofPair
-  pair-1 h = sym (no-at 1 _ _ (and-false _ _ (too-large _ _ h)))
+  pair-1 h = sym (no-at 1 _ _ (and-swap _ _ ∙ and-false _ _ (too-large _ _ h)))
+
+  -- with a version below 64, the questions 1 and 4 are those of the component
+  module _ (v< : v < 64) where
+    in-limits : (c <? components & v <? versions) ≡ (c <? components)
+    in-limits = and-swap _ _ ∙ and-true _ _ (<?-in _ _ v<)
+
+    last-asked : firstNo (ofComponent b c) ≡ 0 → firstNo (ofPair b c v) ≡ firstNo ((10, hasVersion (b .specs) c v) ∷ [])
+    unfolding ofPair ofComponent
+    last-asked e = elim (bool? (c <? components)) [
+      | inl y ↦ elim (bool? (specified (b .specs) c)) [
+        | inl t ↦ yes-at 1 _ _ (in-limits ∙ y) ∙ yes-at 4 _ _ t
+        | inr w ↦ absurd (omega (arith, sym e ∙ yes-at 1 _ _ y ∙ no-at 4 _ _ w))
+      ]
+      | inr n ↦ absurd (omega (arith, sym e ∙ no-at 1 _ _ n))
+    ]
+
+    first-asked : (firstNo (ofComponent b c) ≡ 0 → ⊥) → firstNo (ofComponent b c) ≡ firstNo (ofPair b c v)
+    unfolding ofPair ofComponent
+    first-asked ne = elim (bool? (c <? components)) [
+      | inl y ↦ elim (bool? (specified (b .specs) c)) [
+        | inl t ↦ absurd (ne (yes-at 1 _ _ y ∙ yes-at 4 _ _ t ∙ nothing-asked))
+        | inr w ↦ yes-at 1 _ _ y ∙ no-at 4 _ _ w ∙ sym (yes-at 1 _ _ (in-limits ∙ y) ∙ no-at 4 _ _ w)
+      ]
+      | inr n ↦ no-at 1 _ _ n ∙ sym (no-at 1 _ _ (in-limits ∙ n))
+    ]
+
+    module _ (a : ℕ) (ea : a ≡ firstNo (ofComponent b c)) where
+      pub pair-first : (a ≡ 0 → ⊥) → a ≡ firstNo (ofPair b c v)
+      pair-first ne = ea ∙ first-asked (λ z. ne (ea ∙ z))
+
+      module _ {r : Bool} (z : a ≡ 0) (er : r ≡ hasVersion (b .specs) c v) where
+        pub pair-10 : not r ≡ true → 10 ≡ firstNo (ofPair b c v)
+        pair-10 t = sym (last-asked (sym ea ∙ z) ∙ no-at 10 _ _ (sym er ∙ not-true r t))
+
+        pub pair-0 : not r ≡ false → 0 ≡ firstNo (ofPair b c v)
+        pair-0 t = sym (last-asked (sym ea ∙ z) ∙ yes-at 10 _ _ (sym er ∙ not-false r t) ∙ nothing-asked)
 
   -- a component of which 1 is not the answer
   pub pair-low : (a : ℕ) → a ≡ firstNo (ofPair b c v) → a ≡ 0 → c < 32
-  pair-low a e z = elim (bool? (c <? 32)) [ inl y ↦ <?-out _ _ y | inr w ↦ absurd (omega (arith, e, z, pair-1 (<?-no _ _ w))) ]
-
-  module _ (c< : c < 32) where
-    pub pair-1v : 64 ≤ v → 1 ≡ firstNo (ofPair b c v)
-    unfolding ofPair
-    pair-1v h = sym (no-at 1 _ _ (and-true _ _ (<?-in _ _ c<) ∙ too-large _ _ h))
-
-    module _ (v< : v < 64) {r : Bool} (er : r ≡ specified (b .specs) c) where
-      past-1 : firstNo (ofPair b c v) ≡ firstNo ((4, specified (b .specs) c) ∷ (10, hasVersion (b .specs) c v) ∷ [])
-      unfolding ofPair
-      past-1 = yes-at 1 _ _ (and-in _ _ (<?-in _ _ c<) (<?-in _ _ v<))
-
-      pub pair-4 : not r ≡ true → 4 ≡ firstNo (ofPair b c v)
-      pair-4 t = sym (past-1 ∙ no-at 4 _ _ (sym er ∙ not-true r t))
-
-      module _ (y : not r ≡ false) {u : Bool} (eu : u ≡ hasVersion (b .specs) c v) where
-        past-4 : firstNo (ofPair b c v) ≡ firstNo ((10, hasVersion (b .specs) c v) ∷ [])
-        past-4 = past-1 ∙ yes-at 4 _ _ (sym er ∙ not-false r y)
-
-        pub pair-10 : not u ≡ true → 10 ≡ firstNo (ofPair b c v)
-        pair-10 t = sym (past-4 ∙ no-at 10 _ _ (sym eu ∙ not-true u t))
-
-        pub pair-0 : not u ≡ false → 0 ≡ firstNo (ofPair b c v)
-        pair-0 t = sym (past-4 ∙ yes-at 10 _ _ (sym eu ∙ not-false u t) ∙ (unfold firstNo in refl))
+  unfolding ofPair
+  pair-low a e z = elim (bool? (c <? 32)) [
+    | inl y ↦ <?-out _ _ y
+    | inr w ↦ absurd (omega (arith, e, z, no-at 1 _ ((4, specified (b .specs) c) ∷ (10, hasVersion (b .specs) c v) ∷ []) (and-false _ (v <? versions) w)))
+  ]

@@ -59,18 +59,16 @@ fn asked_of_component<'a>(sets: &'a [u64; 576], numbers: &'a [u8; 8768], c: usiz
     0
 }
 
-// The questions 1, 4 and 10, which NEEDS and the parts list ask.
-pub fn asked_of_pair<'a>(sets: &'a [u64; 576], numbers: &'a [u8; 8768], c: usize, v: usize) -> u8
+// The questions 1, 4 and 10.
+fn asked_of_pair<'a>(sets: &'a [u64; 576], numbers: &'a [u8; 8768], c: usize, v: usize) -> u8
     ensures { λ r. ⌜ r ≡ firstNo (ofPair (plainOf (now (sets .entry)) (now (numbers .entry))) c v) ⌝ }
 {
-    if 32 <= c {
-        return 1;
-    }
     if 64 <= v {
         return 1;
     }
-    if !book::is_specified(sets, numbers, c) {
-        return 4;
+    let answer = asked_of_component(sets, numbers, c);
+    if answer != 0 {
+        return answer;
     }
     if !book::has_version(sets, numbers, c, v) {
         return 10;

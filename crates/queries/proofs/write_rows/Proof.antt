@@ -1,6 +1,6 @@
 use borrow.Author.Needs.{needs}
 use native.Mathlib.Omega.{arith}
-use Prim.Native.Nat.{_≤_, _-_}
+use Prim.Native.Nat.{_<_, _≤_, _-_}
 use Rattle.queries.specs.Found.{WrittenTo, rowIn}
 use Rattle.queries.specs.ListedLaws.{write-end, write-hit, write-length, write-low, write-miss, write-room, write-start}
 use mathlib.Core.Logic.{⊎-elim}
@@ -19,7 +19,8 @@ mul-out c = let l = write-low _ _ _ _ _ (c .before .before .before .before .loop
 slice-write-out : tie.Need-slice-write-out Inv-loop μ-loop
 slice-write-out c =
     let at-loop = c .before .before .before .before in
-    write-room _ _ _ (at-loop .before .before .pre) _ _ _ (c .before .before .before .loop-test .taken) (at-loop .loop .inv .1) (c .before .before .is-chosen .ensures)
+    let low : at-loop .loop .k < 2048 = omega (arith, c .before .before .before .loop-test .taken) in
+    write-room _ _ _ (at-loop .before .before .pre) _ _ _ low (at-loop .loop .inv .1) (c .before .before .is-chosen .ensures)
     (c .before .if1 .taken)
 
 add-at : tie.Need-add-at Inv-loop μ-loop
@@ -29,7 +30,7 @@ loop-again : tie.Need-loop-again Inv-loop μ-loop
 loop-again c =
     let at-loop = c .before .before .before in
     let fits = at-loop .before .before .pre in
-    let low = c .before .before .loop-test .taken in
+    let low : at-loop .loop .k < 2048 = omega (arith, c .before .before .loop-test .taken) in
     let so-far = at-loop .loop .inv .1 in
     let tested = c .before .is-chosen .ensures in (
       omega arith,

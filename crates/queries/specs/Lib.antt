@@ -7,3 +7,4 @@ pub mod FoundLaws
 pub mod RowLaws
 pub mod ListedLaws
 pub mod ChoiceLaws
+pub mod DecidedLaws

@@ -31,7 +31,7 @@ module _ (old : List ℕ) where
   list-refused m e = subst (λ (r : Reply). Listed old m 0 old (fitted (length old) r)) (sym e) (is-refused m)
 
   module _ (xs : List Pair) {r : Reply} (e : r ≡ thePairs xs) (n : ℕ) (en : n ≡ length xs) where
-    -- "Saying 22 with space left" fails
+    -- the slice is too short
     pub list-full : length old < n → Listed old 22 0 old (fitted (length old) r)
     unfolding fitted
     list-full l =

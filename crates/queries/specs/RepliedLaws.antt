@@ -19,10 +19,10 @@ use Rattle.sets.specs.Tests.{_&_, _<?_, _==_}
 -- ---- the reply from the number of the first no
 
 module _ (read : ℕ → Reply) (r : Reply) where
-  pub refuses : (a : ℕ) → (a ≡ 0 → ⊥) → refused a ≡ r → Replied read a 0 r
+  refuses : (a : ℕ) → (a ≡ 0 → ⊥) → refused a ≡ r → Replied read a 0 r
   refuses a ne e = record { is = if-false _ _ _ (==-not a 0 ne) ∙ e; nothing = λ _. refl }
 
-  pub accepts : (x : ℕ) → read x ≡ r → Replied read 0 x r
+  accepts : (x : ℕ) → read x ≡ r → Replied read 0 x r
   accepts x e = record { is = if-true _ _ _ (==-same 0) ∙ e; nothing = λ ne. absurd (ne refl) }
 
 reply-no : (b : Book) (q : Query) (a : ℕ) → firstNo (asked b q) ≡ a → (a ≡ 0 → ⊥) → reply b q ≡ refused a

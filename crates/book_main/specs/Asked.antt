@@ -1,16 +1,14 @@
--- What the writers and the needs ask, from the tests made before each call.
+-- What the writers ask, from the tests made before each call.
 use mathlib.Core.Bool.{Bool, false, not}
 use mathlib.Core.List.{List}
 use mathlib.Core.Path.{_∙_, _≡_, sym}
 use Prim.Native.Nat.{_<_, _^_, suc, zero, ℕ}
 use native.Mathlib.Omega.{arith}
-use lib.ListN.{getD, getD-replicate, length-replicate, replicate}
+use lib.ListN.{getD, replicate}
 use borrow.Author.Tests.{not-false}
 use Rattle.book.specs.Changes.{TakesDefinition, TakesSpec}
 use Rattle.book.specs.Plain.{plainOf, proper}
-use Rattle.model.specs.Book.{Specs, Systems, isDefined, isModule, isSystem, specified}
-use Rattle.rules.specs.Table.{Kept}
-use Rattle.rules.specs.WalkLaws.{kept-start}
+use Rattle.model.specs.Book.{isDefined, isModule, isSystem, specified}
 use Rattle.sets.specs.TestLaws.{or-false}
 
 pub takes-spec : {s n : List ℕ} {c : ℕ} {r q : Bool}
@@ -46,7 +44,3 @@ pub low-all : (k x v : ℕ) → x < 2 ^ 32 → getD (replicate k x) v 0 < 2 ^ 32
 low-all zero x v h = omega arith
 low-all (suc k) x zero h = h
 low-all (suc k) x (suc v) h = low-all k x v h
-
--- a table in which nothing was walked yet
-pub none-walked : (S : Specs) (Y : Systems) → Kept S Y (replicate 2080 0)
-none-walked S Y = kept-start S Y _ (length-replicate {A = ℕ} 2080 0) (λ c h. getD-replicate {A = ℕ} 2080 c 0 0 (omega arith))

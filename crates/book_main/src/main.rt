@@ -1,13 +1,14 @@
-// Builds the teaching book and a deep book, and prints what the test for 25 and the needs say of them and of Books that are no books.
-ghost use mathlib.Core.Path.{_≡_};
-ghost use Prim.Native.Nat.{_<_};
-ghost use Rattle.rules.specs.Test as test;
+// Builds the teaching book and a deep book, and prints what the test for 25 and the queries say of them and of Books that are no books.
 use book::Book;
 
 fn say(text: &[u8], n: u64) {
     io::write_all(1, text);
     io::print_decimal(1, n);
     io::write_all(1, b"\n");
+}
+
+fn say_row(text: &[u8], row: u16) {
+    say(text, row as u64);
 }
 
 // Component c specified with the one version v, or the same Book where it can't be.
@@ -90,18 +91,6 @@ fn deep() -> Book {
     b
 }
 
-// The needs of c.v where the Book is one, else 0.
-fn needs(b: Book, c: usize, v: usize) -> u64 {
-    if 32 <= c {
-        return 0;
-    }
-    if !rules::passes(&b.sets, &b.numbers) {
-        return 0;
-    }
-    let mut table: [u64; 2080] = [0; 2080];
-    rules::needs_of(&b.sets, &b.numbers, c, v, &mut table)
-}
-
 // 1 where the Book is one.
 fn judged(b: Book) -> u64 {
     if rules::is_book(b) {
@@ -123,14 +112,39 @@ fn damaged() {
     say(b"a system with no version, test ", judged(made));
 }
 
+// The rows that CHOICE of hold finds.
+fn choice(b: Book) {
+    let mut rows: [u16; 3] = [0; 3];
+    let found = queries::choice(b, 4, &mut rows);
+    say(b"choice of hold, rows ", found.rows as u64);
+    say_row(b"the first ", rows[0]);
+    say_row(b"the second ", rows[1]);
+    say_row(b"past them ", rows[2]);
+}
+
+// The queries, of a component and of the whole book; sets as numbers.
+fn queries_of(b: Book) {
+    let supplied = queries::supplies(b, 3);
+    say(b"supplies of tank ", supplied.set);
+    let needed = queries::needs(b, 3, 3);
+    say(b"needs of tank.a ", needed.set);
+    let standard = queries::standard(b, 2);
+    say(b"standard of loop ", standard.version as u64);
+    let undefined = queries::undefined(b);
+    say(b"undefined ", undefined.set);
+    let unused = queries::unused(b);
+    say(b"unused ", unused.set);
+    let users = queries::whereused(b, 0);
+    say(b"whereused of probe ", users.set);
+    choice(b);
+}
+
 fn main() {
     say(b"empty book, test ", judged(book::fresh()));
     say(b"teaching book, test ", judged(teaching()));
-    say(b"teaching book, needs of tank.a ", needs(teaching(), 3, 3));
+    queries_of(teaching());
     say(b"deep book, test ", judged(deep()));
-    say(
-        b"deep book, needs of the last system ",
-        needs(deep(), 31, 0),
-    );
+    let needed = queries::needs(deep(), 31, 0);
+    say(b"deep book, needs of the last system ", needed.set);
     damaged();
 }

@@ -20,9 +20,9 @@ use Rattle.model.specs.Maps.{isSome}
 use Rattle.model.specs.Rules.{B1at, B2at, B3at, offered, p, r}
 use Rattle.sets.specs.LoopLaws.{union-turn}
 use Rattle.sets.specs.SetLaws.{bit-ext, bit-zero, subset-width}
-use Rattle.sets.specs.Sets.{Set, bit, disjoint, subset, union, unionBelow, with}
-use Rattle.sets.specs.TestLaws.{<?-in, <?-no, <?-out, ==-in, ==-not, all-in, all-out, and-false, and-in, and-no, and-true, bool?}
-use Rattle.sets.specs.TestLaws.{clash, fails, if-true, iff-in, iff→≡, imp-in, not-in, not-out, or-false, or-l, or-out, same?}
+use Rattle.sets.specs.Sets.{Set, bit, disjoint, subset, union, unionBelow}
+use Rattle.sets.specs.TestLaws.{<?-in, <?-no, <?-out, all-in, all-out, and-false, and-in, and-true, bool?}
+use Rattle.sets.specs.TestLaws.{clash, fails, if-true, iff-in, iff→≡, imp-in, not-in, not-out, or-false, or-out}
 use Rattle.sets.specs.Tests.{_&_, _<?_, _⇒_, _⇔_, _≤?_, all, any, count, ~_}
 use Rattle.theorems.specs.Good.{requires-version}
 use Rattle.theorems.specs.Heights.{usable-system}
@@ -206,28 +206,6 @@ module _ (s n : List ℕ) (c : ℕ) where
         ∙ sym (imp-test _ (all 64 bare) (sym e ∙ not-false r t) refl))
 
 -- the set of the specified components
-pub specified-more : (S : Specs) (c x z : ℕ) {t : Bool} → bit x ≡ sets.below c (specified S) → t ≡ specified S c → t ≡ true → bit z ≡ with (bit x) c
-    → bit z ≡ sets.below (c + 1) (specified S)
-unfolding sets.below with
-specified-more S c x z ex et e ez = ez ∙ fun-ext (λ d. elim (same? d c) [
-  | inl q ↦ or-l _ _ (==-in d c q) ∙ sym (and-in _ _ (<?-in _ _ (omega arith)) (ap (specified S) q ∙ sym et ∙ e))
-  | inr ne ↦ or-false _ _ (==-not d c ne) ∙ at ex d
-      ∙ ap (λ (b : Bool). b & specified S d) (iff→≡ _ _ (λ y. <?-in _ _ (omega (arith, <?-out _ _ y))) (λ y. <?-in _ _ (omega (arith, <?-out _ _ y, ne))))
-])
-
-pub specified-same-set : (S : Specs) (c x : ℕ) {t : Bool} → bit x ≡ sets.below c (specified S) → t ≡ specified S c → t ≡ false
-    → bit x ≡ sets.below (c + 1) (specified S)
-unfolding sets.below
-specified-same-set S c x ex et e = ex ∙ fun-ext (λ d. elim (same? d c) [
-  | inl q ↦ and-no _ _ (λ y. ap (specified S) q ∙ sym et ∙ e) ∙ sym (and-no _ _ (λ y. ap (specified S) q ∙ sym et ∙ e))
-  | inr ne ↦ ap (λ (b : Bool). b & specified S d)
-      (iff→≡ _ _ (λ y. <?-in _ _ (omega (arith, <?-out _ _ y))) (λ y. <?-in _ _ (omega (arith, <?-out _ _ y, ne))))
-])
-
-pub specified-start : (S : Specs) → bit 0 ≡ sets.below 0 (specified S)
-unfolding sets.below
-specified-start S = fun-ext (λ d. bit-zero d ∙ sym (and-false _ _ (fails _ (λ t. omega (arith, <?-out _ _ t)))))
-
 pub specified-end : (s n : List ℕ) (c x : ℕ) → c ≤ 32 → 32 ≤ c → bit x ≡ sets.below c (specified (specsOf s n)) → bit x ≡ specified (specsOf s n)
 unfolding sets.below
 specified-end s n c x h k ex = ex ∙ fun-ext (λ d. elim (bool? (d <? c)) [

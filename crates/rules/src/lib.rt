@@ -323,7 +323,7 @@ fn pass<'a>(sets: &'a [u64; 576], numbers: &'a [u8; 8768], reach: [u64; 32], k: 
 }
 
 // What each component reaches through usable components.
-fn closure<'a>(sets: &'a [u64; 576], numbers: &'a [u8; 8768]) -> [u64; 32]
+pub fn closure<'a>(sets: &'a [u64; 576], numbers: &'a [u8; 8768]) -> [u64; 32]
     ensures { λ r. ⌜ Rows (systemsOf (now (sets .entry)) (now (numbers .entry))) 32 r ⌝ }
 {
     let mut reach = usable_rows(sets, numbers);

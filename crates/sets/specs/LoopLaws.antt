@@ -1,14 +1,17 @@
 -- Laws of loops that run upwards from 0: one for the start, one for a turn, one for each way out. The index is i, the bound n.
 use mathlib.Core.Bool.{Bool, false, not, true}
+use mathlib.Core.Logic.{inl, inr}
 use mathlib.Core.Path.{_∙_, _≡_, ap, ap₂, fun-ext, refl, sym}
 use Prim.Native.Nat.{_+_, _<_, _≤_, ℕ}
 use native.Mathlib.Nat.{le-antisymm}
 use native.Mathlib.Numerals.{add-one}
+use native.Mathlib.Omega.{arith}
 use borrow.Author.Tests.{not-false, not-true}
 use Rattle.sets.specs.SetLaws.{bit-zero}
-use Rattle.sets.specs.Sets.{Set, bit, union, unionBelow}
-use Rattle.sets.specs.TestLaws.{all-out, and-in, any-in, clash, fails, or-false, or-swap}
-use Rattle.sets.specs.Tests.{_or_, all, any, count, one-if}
+use Rattle.sets.specs.Sets.{Set, below, bit, union, unionBelow, with}
+use Rattle.sets.specs.TestLaws.{<?-in, <?-out, ==-in, ==-not, all-out, and-false, and-in, and-no, any-in, clash, fails, iff→≡}
+use Rattle.sets.specs.TestLaws.{or-false, or-l, or-swap, same?}
+use Rattle.sets.specs.Tests.{_&_, _<?_, _or_, all, any, count, one-if}
 
 from-here : (n i : ℕ) → i ≤ n → n ≤ i → i ≡ n
 from-here n i h k = le-antisymm h k
@@ -57,6 +60,30 @@ union-turn i p s t a e = e ∙ fun-ext (λ f. rw add-one (ap (λ (x : Bool). x o
 
 pub union-end : (n i : ℕ) (p : ℕ → Set) (s : ℕ) → i ≤ n → n ≤ i → bit s ≡ unionBelow i p → bit s ≡ unionBelow n p
 union-end n i p s h k a = a ∙ ap (λ (m : ℕ). unionBelow m p) (from-here n i h k)
+
+-- ---- a loop that collects in the number s the numbers at which f passes as r
+
+pub collect-start : (f : ℕ → Bool) → bit 0 ≡ below 0 f
+unfolding below
+collect-start f = fun-ext (λ d. bit-zero d ∙ sym (and-false _ _ (fails _ (λ t. omega (arith, <?-out _ _ t)))))
+
+module _ (i s : ℕ) (f : ℕ → Bool) {r : Bool} (es : bit s ≡ below i f) (er : r ≡ f i) where
+  other : (d : ℕ) → (d ≡ i → ⊥) → (d <? i) ≡ (d <? i + 1)
+  other d ne = iff→≡ _ _ (λ y. <?-in _ _ (omega (arith, <?-out _ _ y))) (λ y. <?-in _ _ (omega (arith, <?-out _ _ y, ne)))
+
+  pub collect-hit : (t : ℕ) → r ≡ true → bit t ≡ with (bit s) i → bit t ≡ below (i + 1) f
+  unfolding below with
+  collect-hit t e et = et ∙ fun-ext (λ d. elim (same? d i) [
+    | inl q ↦ or-l _ _ (==-in d i q) ∙ sym (and-in _ _ (<?-in _ _ (omega arith)) (ap f q ∙ sym er ∙ e))
+    | inr ne ↦ or-false _ _ (==-not d i ne) ∙ ap (λ (a : Set). a d) es ∙ ap (λ (b : Bool). b & f d) (other d ne)
+  ])
+
+  pub collect-miss : r ≡ false → bit s ≡ below (i + 1) f
+  unfolding below
+  collect-miss e = es ∙ fun-ext (λ d. elim (same? d i) [
+    | inl q ↦ and-no _ _ (λ y. ap f q ∙ sym er ∙ e) ∙ sym (and-no _ _ (λ y. ap f q ∙ sym er ∙ e))
+    | inr ne ↦ ap (λ (b : Bool). b & f d) (other d ne)
+  ])
 
 -- ---- a loop that counts in s the numbers at which f passes as r
 

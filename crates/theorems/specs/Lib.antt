@@ -1,5 +1,6 @@
 pub mod MapLaws
 pub mod ListLaws
+pub mod RisingLaws
 pub mod Notions
 pub mod Reach
 pub mod Heights

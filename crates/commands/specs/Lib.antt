@@ -5,3 +5,4 @@ pub mod DeleteLaws
 pub mod AddLaws
 pub mod Calls
 pub mod Demand
+pub mod AddSystemLaws

@@ -193,7 +193,7 @@ pub fn with_member(g: Composition, m: usize, version: usize) -> Composition
 }
 
 // Row v, from the versions of a composition.
-fn put_row(rows: &mut [u8; 2048], v: usize, versions: [u8; 32])
+pub fn put_row(rows: &mut [u8; 2048], v: usize, versions: [u8; 32])
     requires { ⌜ v < 64 ⌝ }
     ensures { λ r. ⌜ now (rows .exit) ≡ rowWritten (now (rows .entry)) v versions 32 ⌝ }
 {

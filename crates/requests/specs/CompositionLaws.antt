@@ -58,7 +58,7 @@ row-other rows v from zero x h ne = refl
 row-other rows v from (suc k) x h ne =
     getD-set-other (rowWritten rows v from k) (v * 32 + k) x (getD from k 0) 0 (ne k h) ∙ row-other rows v from k x (omega arith) ne
 
-row-same : (rows : List ℕ) (v : ℕ) (from : List ℕ) (k m : ℕ) → length rows ≡ 2048 → v < 64 → k ≤ 32 → m < k
+pub row-same : (rows : List ℕ) (v : ℕ) (from : List ℕ) (k m : ℕ) → length rows ≡ 2048 → v < 64 → k ≤ 32 → m < k
     → getD (rowWritten rows v from k) (v * 32 + m) 0 ≡ getD from m 0
 unfolding rowWritten
 row-same rows v from zero m len hv h l = absurd (not-suc-le-zero l)

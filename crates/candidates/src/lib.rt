@@ -5,7 +5,7 @@ ghost use Prim.Native.Nat.{_<_};
 ghost use Rattle.sets.specs.Sets.{bit};
 ghost use Rattle.book.specs.Plain.{plainOf};
 ghost use Rattle.rules.specs.Test as test;
-ghost use Rattle.candidates.specs.Completed.{versionStored, rowCompleted, rowsCompleted};
+ghost use Rattle.candidates.specs.Completed.{versionStored, rowCompleted, rowsCompleted, LowMembers};
 
 // ---- versions that are left out
 
@@ -52,4 +52,17 @@ fn complete_rows<'a>(
             complete_row(sets, numbers, rows, v);
         }
     }
+}
+
+// ---- members
+
+// At each version the members below 32.
+fn low_members(members: [u64; 64]) -> [u64; 64]
+    ensures { λ r. ⌜ LowMembers members r 64 ⌝ }
+{
+    let mut low: [u64; 64] = [0; 64];
+    for v in 0..64 {
+        low[v] = sets::below_32(members[v]);
+    }
+    low
 }

@@ -46,7 +46,7 @@ pub row-end : (rows : List ℕ) (v : ℕ) (from : List ℕ) (k : ℕ) {x : List 
     → x ≡ rowWritten rows v from 32
 row-end rows v from k h₁ h₂ e = e ∙ ap (rowWritten rows v from) (le-antisymm h₁ h₂)
 
-row-length : (rows : List ℕ) (v : ℕ) (from : List ℕ) (k : ℕ) → length (rowWritten rows v from k) ≡ length rows
+pub row-length : (rows : List ℕ) (v : ℕ) (from : List ℕ) (k : ℕ) → length (rowWritten rows v from k) ≡ length rows
 unfolding rowWritten
 row-length rows v from zero = refl
 row-length rows v from (suc k) = simp length-set (row-length rows v from k)
@@ -147,7 +147,7 @@ below-limit : (a : Set) (m : ℕ) → below components a m ≡ true → m < 32
 unfolding below
 below-limit a m t = <?-out _ _ (and-l _ _ t)
 
-only-same : {A : Type 0} (t : Bool) (x y : A) → (t ≡ true → x ≡ y) → onlyIf t x ≡ onlyIf t y
+pub only-same : {A : Type 0} (t : Bool) (x y : A) → (t ≡ true → x ≡ y) → onlyIf t x ≡ onlyIf t y
 unfolding onlyIf
 only-same true x y h = ap some (h refl)
 only-same false x y h = refl

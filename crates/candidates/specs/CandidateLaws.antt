@@ -1,7 +1,6 @@
 -- What the writers of a system leave is what the accepted command changes.
 use mathlib.Core.Bool.{Bool, false, true}
 use mathlib.Core.List.{List}
-use mathlib.Core.Logic.{inl, inr}
 use mathlib.Core.Option.{some}
 use mathlib.Core.Path.{_∙_, _≡_, ap, ap₂, fun-ext, refl, subst, sym}
 use Prim.Native.Nat.{_*_, _+_, _<_, _^_, ℕ}
@@ -12,7 +11,7 @@ use Rattle.book.specs.Changes.{Holds, TakesDefinition, TakesVersion, compositio
 use Rattle.book.specs.Plain.{plainOf, systemsOf}
 use Rattle.candidates.specs.Completed.{LowMembers, rowCompleted, rowsCompleted, versionStored}
 use Rattle.candidates.specs.CompletedLaws as completed
-use Rattle.model.specs.Book.{Book, Specs, components, hasVersion, isSystem, specified, standard}
+use Rattle.model.specs.Book.{Book, Specs, components, hasVersion, isSystem, standard}
 use Rattle.model.specs.Commands.{Members}
 use Rattle.model.specs.Maps.{Map, onlyIf, optionMap, orElse}
 use Rattle.model.specs.Questions.{firstNo}
@@ -22,20 +21,19 @@ use Rattle.questions.specs.AskedLaws.{listed-is, sys-asked, sysvar-asked}
 use Rattle.requests.specs.AnswerLaws.{are-below}
 use Rattle.requests.specs.Answers.{stores, sysAfter, sysvarAfter}
 use Rattle.requests.specs.CompositionLaws as composition
-use Rattle.requests.specs.CompositionLaws.{only-same}
-use Rattle.requests.specs.Gathered.{Gathered, listed}
-use Rattle.requests.specs.Said as said
-use Rattle.requests.specs.Said.{alone, always, isVersionOrNone, itself, membersOf, usableOf}
+use Rattle.requests.specs.CompositionLaws.{below-limit, only-same}
+use Rattle.requests.specs.Gathered.{listed}
+use Rattle.requests.specs.Said.{always, isVersionOrNone, itself, membersOf, usableOf}
 use Rattle.requests.specs.Views.{compositionAt, compositionView, compositionsView, held, markAt, markSaid, nothingAt, rowWritten, usableView}
 use Rattle.requests.specs.declared.Composition.{Composition}
 use Rattle.requests.specs.declared.Compositions.{Compositions}
 use Rattle.requests.specs.declared.Usable.{Usable}
 use Rattle.rules.specs.Test.{passes}
 use Rattle.rules.specs.TestLaws.{passes-plain, passes-proper}
-use Rattle.sets.specs.SetLaws.{bit-high, bit-limit}
+use Rattle.sets.specs.SetLaws.{bit-limit}
 use Rattle.sets.specs.Sets.{Set, below, bit}
-use Rattle.sets.specs.TestLaws.{<?-in, <?-out, all-out, and-absorb, and-l, and-r, and-swap, clash, iff-out, iff→≡, not-in, not-out}
-use Rattle.sets.specs.Tests.{_&_, _<?_, ~_}
+use Rattle.sets.specs.TestLaws.{<?-in, <?-out, all-out, and-absorb, and-l, and-r, and-swap, iff-out, iff→≡, not-out}
+use Rattle.sets.specs.Tests.{~_}
 use Rattle.theorems.specs.Accepted.{EachYes, all-yes}
 use Rattle.theorems.specs.Alike.{sys-is, sys-usable}
 use Rattle.theorems.specs.Frame.{B4-kept}
@@ -47,10 +45,6 @@ only-map : {A B : Type 0} (f : A → B) (t : Bool) (x : A) → optionMap f (only
 unfolding optionMap onlyIf
 only-map f true x = refl
 only-map f false x = refl
-
-below-limit : (a : Set) (m : ℕ) → below 32 a m ≡ true → m < 32
-unfolding below
-below-limit a m t = <?-out _ _ (and-l _ _ t)
 
 below-all : (a : Set) → ((m : ℕ) → a m ≡ true → m < 32) → below 32 a ≡ a
 unfolding below
@@ -70,10 +64,7 @@ row-stores S x v rows a marks e h = fun-ext (λ m.
 
 module _ (s n : List ℕ) (c : ℕ) (u : Usable) (g : Compositions) (good : passes s n ≡ true)
     (asked : firstNo (sysAsked (plainOf s n) c (usableView u) (compositionsView g)) ≡ 0) where
-  abbrev asks : Type 0
-  asks = EachYes (sysQuestions (plainOf s n) c (u .large) (u .twice) (u .set) (g .large) (g .empty) (g .twice) (g .listed))
-
-  yes-all : asks
+  yes-all : EachYes (sysQuestions (plainOf s n) c (u .large) (u .twice) (u .set) (g .large) (g .empty) (g .twice) (g .listed))
   unfolding sysQuestions
   yes-all = all-yes (sysQuestions (plainOf s n) c (u .large) (u .twice) (u .set) (g .large) (g .empty) (g .twice) (g .listed)) (omega arith)
       (sym (ap firstNo (sys-asked (plainOf s n) c u g)) ∙ asked)

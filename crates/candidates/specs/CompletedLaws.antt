@@ -17,8 +17,8 @@ use Rattle.requests.specs.Views.{markSaid}
 use Rattle.rules.specs.Test.{passes}
 use Rattle.rules.specs.TestLaws.{passes-plain}
 use Rattle.sets.specs.Sets.{Set, bit}
-use Rattle.sets.specs.TestLaws.{<?-in, <?-no, bool?, fails, <?-out, if-false, if-true, same?}
-use Rattle.sets.specs.Tests.{_<?_, if_then_else_}
+use Rattle.sets.specs.TestLaws.{<?-in, bool?, fails, <?-out, if-false, if-true, same?}
+use Rattle.sets.specs.Tests.{if_then_else_}
 use Rattle.theorems.specs.Good.{passes→good}
 use Rattle.theorems.specs.KeepSystems.{standard-lim}
 
@@ -119,11 +119,11 @@ module _ (S : Specs) (rows : List ℕ) (vs : Set) (len : length rows ≡ 2048) w
   rows-same (suc k) v m h l t m< = elim (same? v k) [
     | inl e ↦ rw e (here (sym (ap vs e) ∙ t))
     | inr ne ↦ elim (bool? (vs k)) [
-        | inl y ↦ ap (λ (x : List ℕ). getD x (v * 32 + m) 0) (if-true _ _ _ y)
-            ∙ row-other S (rowsCompleted S rows vs k) k 32 (v * 32 + m) (λ j hj q. ne (omega (arith, m<, hj, q)))
-            ∙ rows-same k v m (omega arith) (omega arith) t m<
-        | inr z ↦ ap (λ (x : List ℕ). getD x (v * 32 + m) 0) (if-false _ _ _ z) ∙ rows-same k v m (omega arith) (omega arith) t m<
-      ]
+      | inl y ↦ ap (λ (x : List ℕ). getD x (v * 32 + m) 0) (if-true _ _ _ y)
+          ∙ row-other S (rowsCompleted S rows vs k) k 32 (v * 32 + m) (λ j hj q. ne (omega (arith, m<, hj, q)))
+          ∙ rows-same k v m (omega arith) (omega arith) t m<
+      | inr z ↦ ap (λ (x : List ℕ). getD x (v * 32 + m) 0) (if-false _ _ _ z) ∙ rows-same k v m (omega arith) (omega arith) t m<
+    ]
   ]
     where
       here : vs k ≡ true → getD (if vs k then rowCompleted S (rowsCompleted S rows vs k) k 32 else rowsCompleted S rows vs k) (k * 32 + m) 0

@@ -36,12 +36,7 @@ fn version_stored<'a>(sets: &'a [u64; 576], numbers: &'a [u8; 8768], m: usize, m
 }
 
 // Row v, with the version of each member that is stored.
-fn complete_row<'a>(
-    sets: &'a [u64; 576],
-    numbers: &'a [u8; 8768],
-    rows: &mut [u8; 2048],
-    v: usize,
-)
+fn complete_row<'a>(sets: &'a [u64; 576], numbers: &'a [u8; 8768], rows: &mut [u8; 2048], v: usize)
     requires { ⌜ v < 64 ⌝ }
     requires { ⌜ test.passes (now sets) (now numbers) ≡ true ⌝ }
     ensures { λ r. ⌜ now (rows .exit) ≡ rowCompleted (plainOf (now (sets .entry)) (now (numbers .entry)) .specs) (now (rows .entry)) v 32 ⌝ }

@@ -143,7 +143,7 @@ module _ (k : Composition) (ms : Members) (e : compositionView k ≡ membersOf m
 
 -- ---- a composition put in
 
-below-limit : (a : Set) (m : ℕ) → below components a m ≡ true → m < 32
+pub below-limit : (a : Set) (m : ℕ) → below components a m ≡ true → m < 32
 unfolding below
 below-limit a m t = <?-out _ _ (and-l _ _ t)
 

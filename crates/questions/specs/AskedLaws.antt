@@ -110,7 +110,7 @@ provided-free S c p q e d = d ∙ ap (λ (a : Set). disjoint 64 a (bit q)) e
 
 -- ---- what is gathered, as flags and numbers
 
-listed-is : {B : Type 0} (l e t : Bool) (s : ℕ) (at : ℕ → B) → listed (held l e t s at) ≡ bit s
+pub listed-is : {B : Type 0} (l e t : Bool) (s : ℕ) (at : ℕ → B) → listed (held l e t s at) ≡ bit s
 unfolding listed held
 listed-is l e t s at = fun-ext (λ v. some-only _ _)
 

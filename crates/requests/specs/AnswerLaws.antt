@@ -134,6 +134,9 @@ module _ {A B : Type 0} (n : ℕ) (good full single : A → Bool) (what : A → 
     pub are-listed : (v : ℕ) → elem v (firsts xs) ≡ listed g v
     are-listed v = sym (ap (λ (h : Gathered B). listed h v) is ∙ gathered-listed n good full single what xs below-all v)
 
+    pub are-below : (v : ℕ) → listed g v ≡ true → v < n
+    are-below v t = elem-below n (firsts xs) numbers-below v (are-listed v ∙ t)
+
     pub are-given : (v : ℕ) → optionMap what (beside xs v) ≡ g .given v
     are-given v = sym (ap (λ (h : Gathered B). h .given v) is ∙ gathered-given n good full single what xs below-all v)
 

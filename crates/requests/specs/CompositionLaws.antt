@@ -46,7 +46,7 @@ pub row-end : (rows : List ℕ) (v : ℕ) (from : List ℕ) (k : ℕ) {x : List 
     → x ≡ rowWritten rows v from 32
 row-end rows v from k h₁ h₂ e = e ∙ ap (rowWritten rows v from) (le-antisymm h₁ h₂)
 
-row-length : (rows : List ℕ) (v : ℕ) (from : List ℕ) (k : ℕ) → length (rowWritten rows v from k) ≡ length rows
+pub row-length : (rows : List ℕ) (v : ℕ) (from : List ℕ) (k : ℕ) → length (rowWritten rows v from k) ≡ length rows
 unfolding rowWritten
 row-length rows v from zero = refl
 row-length rows v from (suc k) = simp length-set (row-length rows v from k)
@@ -58,7 +58,7 @@ row-other rows v from zero x h ne = refl
 row-other rows v from (suc k) x h ne =
     getD-set-other (rowWritten rows v from k) (v * 32 + k) x (getD from k 0) 0 (ne k h) ∙ row-other rows v from k x (omega arith) ne
 
-row-same : (rows : List ℕ) (v : ℕ) (from : List ℕ) (k m : ℕ) → length rows ≡ 2048 → v < 64 → k ≤ 32 → m < k
+pub row-same : (rows : List ℕ) (v : ℕ) (from : List ℕ) (k m : ℕ) → length rows ≡ 2048 → v < 64 → k ≤ 32 → m < k
     → getD (rowWritten rows v from k) (v * 32 + m) 0 ≡ getD from m 0
 unfolding rowWritten
 row-same rows v from zero m len hv h l = absurd (not-suc-le-zero l)
@@ -143,11 +143,11 @@ module _ (k : Composition) (ms : Members) (e : compositionView k ≡ membersOf m
 
 -- ---- a composition put in
 
-below-limit : (a : Set) (m : ℕ) → below components a m ≡ true → m < 32
+pub below-limit : (a : Set) (m : ℕ) → below components a m ≡ true → m < 32
 unfolding below
 below-limit a m t = <?-out _ _ (and-l _ _ t)
 
-only-same : {A : Type 0} (t : Bool) (x y : A) → (t ≡ true → x ≡ y) → onlyIf t x ≡ onlyIf t y
+pub only-same : {A : Type 0} (t : Bool) (x y : A) → (t ≡ true → x ≡ y) → onlyIf t x ≡ onlyIf t y
 unfolding onlyIf
 only-same true x y h = ap some (h refl)
 only-same false x y h = refl

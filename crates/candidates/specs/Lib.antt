@@ -1,0 +1,4 @@
+pub mod Completed
+pub mod CompletedLaws
+pub mod MemberLaws
+pub mod CandidateLaws

@@ -305,6 +305,70 @@ pub fn add_modvar_in(b: Book, c: usize, v: usize, required: u64, i: usize) -> Ou
     }
 }
 
+// ADD-SYS: B5 to B9 are asked of every system afterwards.
+pub fn add_sys_in(b: Book, c: usize, u: Usable, g: Compositions) -> Outcome
+    requires { ⌜ test.passes (b .sets) (b .numbers) ≡ true ⌝ }
+    ensures { λ r. ⌜ ((us : List ℕ) (ks : List (ℕ × Members)) → usableView u ≡ usableOf us → compositionsView g ≡ compositionsOf ks
+        → Called (b .sets) (b .numbers) (ADD-SYS c us ks) (r .answer) (r .book .sets) (r .book .numbers)) ⌝ }
+{
+    let answer = questions::sys_asked(&b.sets, &b.numbers, c, u, g);
+    if answer != 0 {
+        return Outcome {
+            answer: answer,
+            book: b,
+        };
+    }
+    let then = candidates::sys_candidate(b, c, u, g);
+    if !rules::b3(&then.sets, &then.numbers) {
+        return Outcome {
+            answer: 19,
+            book: b,
+        };
+    }
+    if !rules::b4(&then.sets, &then.numbers) {
+        return Outcome {
+            answer: 20,
+            book: b,
+        };
+    }
+    if !rules::b5_to_b9(&then.sets, &then.numbers) {
+        return Outcome {
+            answer: 21,
+            book: b,
+        };
+    }
+    Outcome {
+        answer: 0,
+        book: then,
+    }
+}
+
+// ADD-SYSVAR: B5 to B9 are asked of every system afterwards.
+pub fn add_sysvar_in(b: Book, c: usize, v: usize, g: Composition) -> Outcome
+    requires { ⌜ test.passes (b .sets) (b .numbers) ≡ true ⌝ }
+    ensures { λ r. ⌜ ((ms : Members) → compositionView g ≡ membersOf ms
+        → Called (b .sets) (b .numbers) (ADD-SYSVAR c v ms) (r .answer) (r .book .sets) (r .book .numbers)) ⌝ }
+{
+    let answer = questions::sysvar_asked(&b.sets, &b.numbers, c, v, g);
+    if answer != 0 {
+        return Outcome {
+            answer: answer,
+            book: b,
+        };
+    }
+    let then = candidates::sysvar_candidate(b, c, v, g);
+    if !rules::b5_to_b9(&then.sets, &then.numbers) {
+        return Outcome {
+            answer: 21,
+            book: b,
+        };
+    }
+    Outcome {
+        answer: 0,
+        book: then,
+    }
+}
+
 // ---- the public calls
 
 // ADD-SPEC, on any Book: the facilities provided as a set; versions, and for each the set of the facilities that it requires.
@@ -356,6 +420,49 @@ pub fn add_modvar(b: Book, c: usize, v: usize, required: u64, implementation: us
         };
     }
     add_modvar_in(b, c, v, required, implementation)
+}
+
+// ADD-SYS, on any Book: usable components; versions, and for each the length of its composition; the members of all compositions one
+// after the other, and for each its version or requests::LEFT_OUT.
+pub fn add_sys<'a>(
+    b: Book,
+    c: usize,
+    usable: &'a [usize],
+    versions: &'a [usize],
+    lengths: &'a [usize],
+    members: &'a [usize],
+    chosen: &'a [usize],
+) -> Outcome
+    ensures { λ r. ⌜ Called (b .sets) (b .numbers) (commandOf (addSys c (now (usable .entry)) (now (versions .entry)) (now (lengths .entry)) (now (members .entry)) (now (chosen .entry)))) (r .answer) (r .book .sets) (r .book .numbers) ⌝ }
+{
+    if !rules::passes(&b.sets, &b.numbers) {
+        return Outcome {
+            answer: 25,
+            book: b,
+        };
+    }
+    let u = requests::usable_of(usable);
+    let g = requests::compositions_of(versions, lengths, members, chosen);
+    add_sys_in(b, c, u, g)
+}
+
+// ADD-SYSVAR, on any Book: members, and for each its version or requests::LEFT_OUT.
+pub fn add_sysvar<'a>(
+    b: Book,
+    c: usize,
+    v: usize,
+    members: &'a [usize],
+    chosen: &'a [usize],
+) -> Outcome
+    ensures { λ r. ⌜ Called (b .sets) (b .numbers) (commandOf (addSysvar c v (now (members .entry)) (now (chosen .entry)))) (r .answer) (r .book .sets) (r .book .numbers) ⌝ }
+{
+    if !rules::passes(&b.sets, &b.numbers) {
+        return Outcome {
+            answer: 25,
+            book: b,
+        };
+    }
+    add_sysvar_in(b, c, v, requests::composition_of(members, chosen))
 }
 
 // DEL-SPEC, on any Book.

@@ -1,0 +1,18 @@
+use Rattle.commands.specs.OutcomeLaws.{refuse-25}
+use Rattle.commands.specs.Calls.{commandOf}
+use Rattle.requests.specs.Said.{compositionsSaid}
+use Rattle.rules.specs.TestLaws.{is-yes}
+use borrow.Author.Tests.{not-true}
+use mathlib.Core.Path.{_∙_, sym}
+use borrow.Author.Needs.{needs}
+use Rattle.commands.proofs.add_sys.Statement.{statement}
+use Rattle.commands.proofs.add_sys.Tie as tie
+
+returns-2 : tie.Need-returns-2
+unfolding commandOf
+returns-2 c = c .add-sys-in .ensures _ (compositionsSaid _ _ _ _) (c .before .before .usable-of .ensures) (c .before .compositions-of .ensures)
+
+pub add-sys-spec : {M : Type 1} → statement M
+add-sys-spec = tie.close
+    (tie.spec (λ c κs. search needs) (λ c. refuse-25 _ _ _ (sym (c .before .passes .ensures) ∙ not-true _ (c .if1 .taken))) (λ c κs. search needs) (λ c κs. search needs)
+    (λ c κs. is-yes _ (c .before .before .before .passes .ensures) (c .before .before .if1 .left)) returns-2)

@@ -15,7 +15,7 @@ use Rattle.rules.specs.Test.{passes}
 use Rattle.sets.specs.TestLaws.{if-true}
 use Rattle.theorems.specs.Notions.{Run}
 use Rattle.theorems.specs.PartsRight.{PartsRight}
-use Rattle.theorems.specs.Sequence.{from-empty}
+use Rattle.theorems.specs.Sequence.{from-empty, run-right}
 
 -- a Book as its two arrays
 abbrev pub Arrays : Type 0
@@ -54,3 +54,9 @@ pub every-sequence : {s n s′ n′ : List ℕ} {qs : List Call} {ns : List ℕ}
 every-sequence {s} {n} {s′} {n′} e good calls =
     from-empty Arrays Call Step (λ b. plainOf (b .0) (b .1)) commandOf (λ b. passes (b .0) (b .1) ≡ true)
     (λ r q a r′ ok c. step-right (r .0) (r .1) (commandOf q) a (r′ .0) (r′ .1) ok c) calls good e
+
+pub run-passes : {s n s′ n′ : List ℕ} {qs : List Call} {ns : List ℕ} → passes s n ≡ true → Run Arrays Call Step (s, n) qs ns (s′, n′)
+    → passes s′ n′ ≡ true
+run-passes good calls =
+    run-right Arrays Call Step (λ b. plainOf (b .0) (b .1)) commandOf (λ b. passes (b .0) (b .1) ≡ true)
+    (λ r q a r′ ok c. step-right (r .0) (r .1) (commandOf q) a (r′ .0) (r′ .1) ok c) calls good .2

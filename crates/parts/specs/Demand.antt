@@ -1,21 +1,24 @@
 -- Demand 3 of the call for a parts list.
-use mathlib.Core.Bool.{true}
-use mathlib.Core.List.{List}
+use mathlib.Core.Bool.{false, true}
+use mathlib.Core.List.{List, [], _∷_}
+use mathlib.Core.Logic.{_↔_, inl, inr}
 use mathlib.Core.Path.{_∙_, _≡_}
 use Prim.Native.Nat.{_<_, _≤_, ℕ}
 use native.Mathlib.Nat.{le-trans}
+use native.Mathlib.Omega.{arith}
 use lib.ListN.{length}
 use Rattle.book.specs.Plain.{plainOf}
 use Rattle.model.specs.Book.{hasVersion}
+use Rattle.model.specs.PartsList.{parts}
 use Rattle.model.specs.Queries.{asked}
 use Rattle.model.specs.Questions.{firstNo}
 use Rattle.parts.specs.Listed.{Found, Listed, partsAnswer, partsAsked}
 use Rattle.rules.specs.Test.{passes}
 use Rattle.rules.specs.TestLaws.{passes-plain}
-use Rattle.sets.specs.TestLaws.{<?-in, and-in, if-true, ≤?-in}
+use Rattle.sets.specs.TestLaws.{<?-in, <?-no, <?-out, and-in, bool?, clash, fails, if-false, if-true, ≤?-in, ≤?-out}
+use Rattle.sets.specs.Tests.{_<?_, _≤?_}
 use Rattle.theorems.specs.Good.{passes→good, version-specified}
-use Rattle.theorems.specs.Meaning.{no-no}
-use Rattle.theorems.specs.Notions.{howManyPairs, none-left, yes-all}
+use Rattle.theorems.specs.Notions.{howManyPairs}
 use Rattle.theorems.specs.Parts.{pair-limits}
 use Rattle.theorems.specs.PartsRight.{PartsRight}
 use Rattle.theorems.specs.Sequence.{passes-parts}
@@ -28,6 +31,25 @@ pub record RightlyListed (s n : List ℕ) (c v : ℕ) (old : List ℕ) (a rows d
   pub list : Found (plainOf s n) c v old rows depth out
   pub right : PartsRight (plainOf s n) c v
 
+-- of a stored version only question 22 is left
+module _ (s n : List ℕ) (c v room : ℕ) (good : passes s n ≡ true) (has-it : hasVersion (plainOf s n .specs) c v ≡ true) where
+  stored-limits : (c < 32) × (v < 64)
+  stored-limits = pair-limits (plainOf s n) (passes→good (passes-plain s n good)) c v has-it c v has-it
+
+  only-22 : partsAnswer s n c v room ≡ firstNo ((22, length (parts (plainOf s n) c v) ≤? room) ∷ [])
+  unfolding partsAnswer partsAsked asked firstNo
+  only-22 =
+      if-true _ _ _ good ∙ if-true _ _ _ (and-in _ _ (<?-in _ _ (stored-limits .0)) (<?-in _ _ (stored-limits .1)))
+      ∙ if-true _ _ _ (version-specified _ c v has-it) ∙ if-true _ _ _ has-it
+
+  pub fits-0 : length (parts (plainOf s n) c v) ≤ room → partsAnswer s n c v room ≡ 0
+  unfolding firstNo
+  fits-0 h = only-22 ∙ if-true _ _ _ (≤?-in _ _ h)
+
+  pub short-22 : room < length (parts (plainOf s n) c v) → partsAnswer s n c v room ≡ 22
+  unfolding firstNo
+  short-22 h = only-22 ∙ if-false _ _ _ (fails _ (λ t. omega (arith, h, ≤?-out _ _ t)))
+
 pub parts-call-right : (s n : List ℕ) (c v : ℕ) (old : List ℕ) (a rows depth : ℕ) (out : List ℕ)
     → passes s n ≡ true → hasVersion (plainOf s n .specs) c v ≡ true → howManyPairs (plainOf s n) ≤ length old
     → Listed s n c v old a rows depth out → RightlyListed s n c v old a rows depth out
@@ -37,15 +59,23 @@ parts-call-right s n c v old a rows depth out good has-it room z =
     right : PartsRight (plainOf s n) c v
     right = passes-parts (plainOf s n) (passes-plain s n good) c v has-it
 
-    limits : (c < 32) × (v < 64)
-    limits = pair-limits (plainOf s n) (passes→good (passes-plain s n good)) c v has-it c v has-it
-
-    all-yes : firstNo (partsAsked (plainOf s n) c v (length old)) ≡ 0
-    all-yes = unfold partsAsked asked in no-no (yes-all (and-in _ _ (<?-in _ _ (limits .0)) (<?-in _ _ (limits .1)))
-        (yes-all (version-specified _ c v has-it) (yes-all has-it (yes-all (≤?-in _ _ (le-trans (right .rows) room)) none-left))))
-
-    passed : partsAnswer s n c v (length old) ≡ firstNo (partsAsked (plainOf s n) c v (length old))
-    passed = unfold partsAnswer in if-true _ _ _ good
-
     answered : a ≡ 0
-    answered = z .answer-is ∙ passed ∙ all-yes
+    answered = z .answer-is ∙ fits-0 s n c v (length old) good has-it (le-trans (right .rows) room)
+
+-- "The call for it gives 22 exactly when the slice has fewer rows than this list"
+pub gives-22 : (s n : List ℕ) (c v : ℕ) (old : List ℕ) (a rows depth : ℕ) (out : List ℕ) → passes s n ≡ true
+    → hasVersion (plainOf s n .specs) c v ≡ true → Listed s n c v old a rows depth out
+    → (a ≡ 22) ↔ (length old < length (parts (plainOf s n) c v))
+gives-22 s n c v old a rows depth out good has-it z = (
+  λ e. elim (bool? (length (parts (plainOf s n) c v) ≤? length old)) [
+    | inl t ↦ absurd (omega (arith, e, z .answer-is ∙ fits-0 s n c v (length old) good has-it (≤?-out _ _ t)))
+    | inr t ↦ ≤?-no t
+  ],
+  λ h. z .answer-is ∙ short-22 s n c v (length old) good has-it h,
+)
+  where
+    ≤?-no : (length (parts (plainOf s n) c v) ≤? length old) ≡ false → length old < length (parts (plainOf s n) c v)
+    ≤?-no t = elim (bool? (length old <? length (parts (plainOf s n) c v))) [
+      | inl y ↦ <?-out _ _ y
+      | inr y ↦ clash (≤?-in _ _ (<?-no _ _ y)) t
+    ]

@@ -2,14 +2,12 @@
 -- is what the command changes.
 use mathlib.Core.Bool.{Bool, false, true}
 use mathlib.Core.List.{List, [], _∷_}
-use mathlib.Core.Logic.{inl, inr}
-use mathlib.Core.Option.{Option}
-use mathlib.Core.Path.{_∙_, _≡_, ap, ap₂, fun-ext, refl, subst, sym}
+use mathlib.Core.Path.{_∙_, _≡_, ap, ap₂, fun-ext, subst, sym}
 use Prim.Native.Nat.{_<_, _^_, _≤_, ℕ}
 use native.Mathlib.Omega.{arith}
 use lib.ListN.{getD}
-use Rattle.book.specs.Changes.{Holds, TakesDefinition, TakesSpec, TakesVersion, implementationsOf, specFrom, withModule, withModvar, withSpec}
-use Rattle.book.specs.Plain.{byte, facilitySet, plainOf}
+use Rattle.book.specs.Changes.{Holds, implementationsOf, specFrom, withModule, withModvar, withSpec}
+use Rattle.book.specs.Plain.{byte, facilitySet}
 use Rattle.model.specs.Book.{Book, components, facilities, hasVersion, implementations, isDefined, isModule, provides, specified, versions}
 use Rattle.model.specs.Commands.{ADD-MOD, ADD-MODVAR, ADD-SPEC, after}
 use Rattle.model.specs.Limits.{Passes, howMany}
@@ -26,14 +24,12 @@ use Rattle.requests.specs.Said.{numbersOf, setsOf}
 use Rattle.requests.specs.Views.{byteAt, held, numbersView, setAt, setsView}
 use Rattle.requests.specs.declared.Numbers.{Numbers}
 use Rattle.requests.specs.declared.Sets.{Sets}
-use Rattle.rules.specs.Test.{passes}
-use Rattle.rules.specs.TestLaws.{passes-plain, passes-proper}
 use Rattle.sets.specs.SetLaws.{bit-limit}
 use Rattle.sets.specs.Sets.{Set, bit, disjoint}
-use Rattle.sets.specs.TestLaws.{<?-in, <?-out, all-out, and-absorb, and-l, and-r, and-swap, bool?, clash, fails, iff-out, iff→≡, not-out, ≤?-out}
+use Rattle.sets.specs.TestLaws.{<?-in, <?-out, all-out, and-absorb, and-l, and-r, and-swap, iff-out, iff→≡, not-out, ≤?-out}
 use Rattle.sets.specs.Tests.{_&_, _<?_, ~_, count}
 use Rattle.theorems.specs.Accepted.{EachYes, Numbered, all-yes}
-use Rattle.theorems.specs.Good.{passes→good, version-specified}
+use Rattle.theorems.specs.Good.{passes→good}
 
 -- ---- ADD-SPEC
 

@@ -1,5 +1,5 @@
 -- The ten calls by number, so that one function makes each of them.
-use mathlib.Core.List.{List, []}
+use mathlib.Core.List.{List}
 use Prim.Native.Nat.{ℕ}
 use Rattle.commands.specs.Calls.{Call, addMod, addModvar, addSpec, addSys, addSysvar, delMod, delModvar, delSpec, delSys, delSysvar}
 use Rattle.sets.specs.Tests.{_==_, if_then_else_}

@@ -16,7 +16,7 @@ use Rattle.model.specs.Maps.{if-there, onlyIf}
 use Rattle.model.specs.Questions.{firstNo, noRequirements}
 use Rattle.questions.specs.Asked.{freeAt, freeIn, modQuestions, specQuestions, sysAsked, sysQuestions, sysvarAsked, sysvarQuestions}
 use Rattle.requests.specs.Answers.{modAnswer, specAnswer}
-use Rattle.requests.specs.Gathered.{Gathered, listed}
+use Rattle.requests.specs.Gathered.{listed}
 use Rattle.requests.specs.ViewLaws.{some-only}
 use Rattle.requests.specs.Views.{byteAt, compositionAt, compositionView, compositionsView, held, markAt, nothingAt, numbersView, setAt, setsView, usableView}
 use Rattle.requests.specs.declared.Composition.{Composition}

@@ -2,17 +2,16 @@
 -- gathered of them.
 use mathlib.Core.Bool.{Bool, false, true}
 use mathlib.Core.List.{List, [], _∷_, map}
-use mathlib.Core.Logic.{_≢_, inl, inr}
 use mathlib.Core.Option.{Option, none, some}
 use mathlib.Core.Path.{_∙_, _≡_, ap, ap₂, fun-ext, refl, sym}
 use Prim.Native.Nat.{_<_, suc, ℕ}
 use native.Mathlib.Omega.{arith}
 use lib.ListN.{length}
 use Rattle.book.specs.Changes.{withModule, withModvar, withSpec, withSystem, withSysvar}
-use Rattle.model.specs.Book.{Book, System, Systems, components, facilities, hasVersion, implementations, provides, specified, standard, versions}
+use Rattle.model.specs.Book.{Book, components, facilities, hasVersion, specified, standard, versions}
 use Rattle.model.specs.Commands.{ADD-MOD, ADD-MODVAR, ADD-SPEC, ADD-SYS, ADD-SYSVAR, Members, after, stored}
 use Rattle.model.specs.Lists.{beside, elem, every, firsts, nonEmpty, once, seconds, setOf}
-use Rattle.model.specs.Maps.{Map, if-there, isSome, optionMap, orElse, put}
+use Rattle.model.specs.Maps.{Map, if-there, optionMap, orElse, put}
 use Rattle.model.specs.PlainBook.{answer}
 use Rattle.model.specs.Questions.{Question, eachBelow, exactly, firstNo, free, inLimits, memberBelow, questions}
 use Rattle.model.specs.Rules.{B3, B4, B5-to-B9}
@@ -22,11 +21,11 @@ use Rattle.requests.specs.Gathered.{Gathered, gather, listed, nothing}
 use Rattle.requests.specs.GatheredLaws.{entryBelow, gathered-empty, gathered-given, gathered-large, gathered-listed, gathered-twice}
 use Rattle.requests.specs.Said.{alone, always, compositionsFrom, compositionsOf, isImplementation, isVersionOrNone, itself, membersOf, membersOnce, numbersOf, setsOf, usableOf}
 use Rattle.sets.specs.Sets.{Set, disjoint, subset}
-use Rattle.sets.specs.TestLaws.{<?-in, <?-out, ==-in, ==-not, ==-out, ==-same, all-cong, all-in, all-out, and-in, and-l, and-r, and-swap, any-cong, any-in, any-out, bool?, clash, count-none, count-strict}
-use Rattle.sets.specs.TestLaws.{fails, if-false, if-true, iff→≡, imp-in, imp-out, not-in, not-out, or-l, or-out, or-r, same?}
-use Rattle.sets.specs.Tests.{_&_, _<?_, _==_, _or_, _⇒_, _⇔_, _≤?_, all, any, count, if_then_else_, ~_}
+use Rattle.sets.specs.TestLaws.{<?-out, ==-not, ==-same, all-cong, all-in, all-out, and-in, and-l, and-r, and-swap, any-cong, any-in, any-out, clash, count-none, count-strict}
+use Rattle.sets.specs.TestLaws.{fails, if-false, if-true, iff→≡, imp-in, imp-out, not-in, not-out, or-l, or-r}
+use Rattle.sets.specs.Tests.{_&_, _<?_, _==_, _or_, _⇔_, _≤?_, all, any, count, if_then_else_, ~_}
 use Rattle.theorems.specs.ListLaws.{beside-elem, beside-second, count-one-more, every-elem}
-use Rattle.theorems.specs.MapLaws.{if-there-cong, if-there-in, if-there-out, isSome-in, optionMap-out}
+use Rattle.theorems.specs.MapLaws.{if-there-cong, if-there-in, if-there-out, isSome-in}
 
 -- two lists of questions that part only where an earlier answer is no
 first-same : (n : ℕ) (a b : Bool) (xs ys : List Question) → a ≡ b → (a ≡ true → firstNo xs ≡ firstNo ys) → firstNo ((n, a) ∷ xs) ≡ firstNo ((n, b) ∷ ys)

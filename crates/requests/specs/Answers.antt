@@ -3,7 +3,7 @@
 use mathlib.Core.List.{[], _∷_}
 use mathlib.Core.Option.{Option}
 use Prim.Native.Nat.{ℕ}
-use Rattle.book.specs.Changes.{withModule, withModvar, withSpec, withSystem, withSysvar}
+use Rattle.book.specs.Changes.{withModule, withSpec, withSystem, withSysvar}
 use Rattle.model.specs.Book.{Book, Specs, components, facilities, hasVersion, implementations, isDefined, isModule, isSystem}
 use Rattle.model.specs.Book.{provides, specified, standard, versions}
 use Rattle.model.specs.Limits.{howMany}

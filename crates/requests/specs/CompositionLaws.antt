@@ -14,20 +14,18 @@ use lib.Pow.{pow-pos}
 use lib.Seq.{getD-set-other, getD-set-same}
 use Rattle.model.specs.Book.{components, versions}
 use Rattle.model.specs.Commands.{Members}
-use Rattle.model.specs.Lists.{beside, elem, every, firsts, nonEmpty, once, seconds}
+use Rattle.model.specs.Lists.{beside, every, firsts, nonEmpty, once, seconds}
 use Rattle.model.specs.Maps.{Map, isSome, onlyIf, optionMap}
 use Rattle.model.specs.Questions.{memberBelow}
 use Rattle.requests.specs.Gathered.{Gathered, listed, nothing, step}
 use Rattle.requests.specs.GatheredLaws.{entryBelow, gathered-given, gathered-large, gathered-twice}
 use Rattle.requests.specs.Said.{always, compositionsStep, isVersionOrNone, itself, membersOf, membersOnce}
-use Rattle.requests.specs.ViewLaws.{beside-large, entry-new, entry-old, held-nothing, itself-is, number-large, only-no, only-yes, some-only}
+use Rattle.requests.specs.ViewLaws.{beside-large, entry-new, entry-old, held-nothing, number-large, some-only}
 use Rattle.requests.specs.Views.{compositionAt, compositionView, compositionsView, held, markAt, markSaid, rowWritten}
 use Rattle.sets.specs.SetLaws.{bit-ext, bit-zero}
 use Rattle.sets.specs.Sets.{Set, below, bit, with}
 use Rattle.sets.specs.TestLaws.{<?-in, <?-out, ==-in, ==-out, ==-same, and-absorb, and-l, and-r, and-swap, bool?, clash, fails, if-false, if-true, iff→≡, not-in, not-no, not-out, same?}
-use Rattle.sets.specs.Tests.{_&_, _<?_, _==_, _or_, ~_}
-use Rattle.theorems.specs.ListLaws.{beside-elem}
-use Rattle.theorems.specs.MapLaws.{isSome-out}
+use Rattle.sets.specs.Tests.{_&_, _==_, _or_, ~_}
 use Rattle.requests.specs.declared.Composition.{Composition}
 use Rattle.requests.specs.declared.Compositions.{Compositions}
 

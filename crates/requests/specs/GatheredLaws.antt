@@ -3,10 +3,10 @@ use mathlib.Core.Bool.{Bool, false, true}
 use mathlib.Core.List.{List, [], _∷_}
 use mathlib.Core.Logic.{inl, inr}
 use mathlib.Core.Option.{Option, none, some}
-use mathlib.Core.Path.{_∙_, _≡_, ap, ap₂, fun-ext, refl, sym}
+use mathlib.Core.Path.{_∙_, _≡_, ap, fun-ext, refl, sym}
 use Prim.Native.Nat.{ℕ}
 use Rattle.model.specs.Lists.{beside, elem, every, firsts, once, seconds}
-use Rattle.model.specs.Maps.{Map, elseTry, isSome, onlyIf, optionMap}
+use Rattle.model.specs.Maps.{elseTry, isSome, onlyIf, optionMap}
 use Rattle.requests.specs.Gathered.{Gathered, gather, listed, nothing, step}
 use Rattle.sets.specs.Sets.{Set}
 use Rattle.sets.specs.TestLaws.{==-in, ==-out, and-l, and-r, bool?, if-false, if-true, iff→≡}

@@ -11,7 +11,7 @@ use Rattle.model.specs.Maps.{Map, if-there}
 use Rattle.model.specs.Questions.{eachBelow, memberBelow}
 use Rattle.requests.specs.Gathered.{Gathered, gather, nothing, step}
 use Rattle.sets.specs.Sets.{Set, bit}
-use Rattle.sets.specs.Tests.{_&_, _<?_, _==_, _≤?_, if_then_else_, ~_}
+use Rattle.sets.specs.Tests.{_&_, _<?_, _==_, _≤?_, if_then_else_}
 
 -- ---- lists of a command
 

@@ -1,34 +1,29 @@
 -- One entry more, as the code writes it, is one step of gathering.
-use mathlib.Core.Bool.{Bool, _||_, false, not, true}
+use mathlib.Core.Bool.{Bool, false, true}
 use mathlib.Core.List.{List}
 use mathlib.Core.Logic.{_≢_, inl, inr}
 use mathlib.Core.Option.{Option, none, some}
 use mathlib.Core.Path.{_∙_, _≡_, ap, ap₂, fun-ext, refl, sym}
 use Prim.Native.Nat.{_<_, _^_, _≤_, ℕ}
-use native.Mathlib.Nat.{le-antisymm, not-suc-le-zero}
-use native.Mathlib.Numerals.{add-one}
 use native.Mathlib.Omega.{arith}
-use lib.Dec.{eqb}
-use lib.ListN.{getD, length, length-set, replicate, set}
+use lib.ListN.{length, replicate, set}
 use lib.Seq.{getD-set-other, getD-set-same}
 use Rattle.book.specs.Plain.{byte, facilitySet}
 use Rattle.model.specs.Book.{components, facilities, versions}
-use Rattle.model.specs.Commands.{Members}
-use Rattle.model.specs.Lists.{beside, elem, every, firsts, nonEmpty, once, seconds, setOf}
-use Rattle.model.specs.Maps.{Map, elseTry, if-there, isSome, onlyIf, optionMap}
-use Rattle.model.specs.Questions.{eachBelow, memberBelow}
+use Rattle.model.specs.Lists.{beside, setOf}
+use Rattle.model.specs.Maps.{Map, elseTry, if-there, isSome, onlyIf}
+use Rattle.model.specs.Questions.{eachBelow}
 use Rattle.requests.specs.Gathered.{Gathered, listed, nothing, step}
-use Rattle.requests.specs.GatheredLaws.{else-none, entryBelow, gathered-given, gathered-large, gathered-listed, gathered-twice, step-in, step-out}
-use Rattle.requests.specs.Said.{always, alone, compositionsStep, isImplementation, isVersionOrNone, itself, leftOut, membersOf, membersOnce, membersStep}
+use Rattle.requests.specs.GatheredLaws.{else-none, step-in, step-out}
+use Rattle.requests.specs.Said.{always, alone, isImplementation, isVersionOrNone, itself, leftOut, membersStep}
 use Rattle.requests.specs.Said.{numbersStep, setsStep, usableStep, versionSaid}
-use Rattle.requests.specs.Views.{byteAt, compositionAt, compositionView, compositionsView, held, markAt, markSaid, nothingAt, numbersView}
-use Rattle.requests.specs.Views.{rowWritten, setAt, setsView, usableView}
+use Rattle.requests.specs.Views.{byteAt, compositionView, held, markAt, markSaid, nothingAt, numbersView}
+use Rattle.requests.specs.Views.{setAt, setsView, usableView}
 use Rattle.sets.specs.SetLaws.{bit-below, bit-zero}
 use Rattle.sets.specs.Sets.{Set, bit, with}
-use Rattle.sets.specs.TestLaws.{<?-in, <?-out, ==-in, ==-not, ==-same, and-false, and-in, and-true, bool?, clash, fails, if-false, if-true, or-false, or-l, or-r, same?}
+use Rattle.sets.specs.TestLaws.{<?-in, <?-out, ==-in, ==-not, ==-same, and-false, and-in, and-true, bool?, fails, if-false, if-true, or-false, or-l, or-r, same?}
 use Rattle.sets.specs.Tests.{_&_, _<?_, _==_, _or_, if_then_else_, ~_}
 use Rattle.requests.specs.declared.Composition.{Composition}
-use Rattle.requests.specs.declared.Compositions.{Compositions}
 use Rattle.requests.specs.declared.Numbers.{Numbers}
 use Rattle.requests.specs.declared.Sets.{Sets}
 use Rattle.requests.specs.declared.Usable.{Usable}

@@ -1,7 +1,7 @@
 // The rules B1 to B9 of a Book, the needs of its pairs, and the test for 25. Each function says of the plain book that the two arrays mean
 // what `model` defines.
 ghost use mathlib.Core.Path.{_≡_};
-ghost use mathlib.Core.Bool.{true, not};
+ghost use mathlib.Core.Bool.{true};
 ghost use Prim.Native.Nat.{ℕ, _<_, _+_};
 ghost use lib.ListN.{getD};
 ghost use mathlib.Core.List.{List};

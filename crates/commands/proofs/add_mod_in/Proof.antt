@@ -1,7 +1,5 @@
 use borrow.Author.Needs.{needs}
-use mathlib.Core.Path.{_∙_, _≡_, ap, subst, sym}
-use native.Mathlib.Omega.{arith}
-use Prim.Native.Nat.{_<_, ℕ}
+use mathlib.Core.Path.{_∙_, sym}
 use Rattle.commands.specs.OutcomeLaws.{accept, refuse-any}
 use Rattle.commands.specs.AddLaws.{mod-answers, mod-component, mod-holds, mod-specified, mod-undefined}
 use Rattle.rules.specs.TestLaws.{passes-proper, passes-plain}

@@ -1,7 +1,6 @@
 use borrow.Author.Needs.{needs}
-use mathlib.Core.Path.{_∙_, _≡_, ap, subst, sym}
+use mathlib.Core.Path.{_∙_, sym}
 use native.Mathlib.Omega.{arith}
-use Prim.Native.Nat.{_<_, ℕ}
 use Rattle.commands.specs.OutcomeLaws.{accept, refuse-any}
 use Rattle.commands.specs.AddLaws.{modvar-answers, modvar-component, modvar-holds, modvar-implementation, modvar-module, modvar-new, modvar-room, modvar-version}
 use Rattle.theorems.specs.Good.{passes→good}

@@ -1,10 +1,9 @@
 use borrow.Author.Needs.{needs}
-use mathlib.Core.Path.{_∙_, _≡_, ap, subst, sym}
+use mathlib.Core.Path.{_∙_, sym}
 use native.Mathlib.Omega.{arith}
-use Prim.Native.Nat.{_<_, ℕ}
 use Rattle.commands.specs.OutcomeLaws.{accept, refuse-any}
 use Rattle.commands.specs.AddLaws.{spec-answers, spec-component, spec-few, spec-holds, spec-new, spec-standard}
-use Rattle.rules.specs.TestLaws.{passes-proper, passes-plain}
+use Rattle.rules.specs.TestLaws.{passes-proper}
 use Rattle.commands.proofs.add_spec_in.Statement.{statement}
 use Rattle.commands.proofs.add_spec_in.Tie as tie
 

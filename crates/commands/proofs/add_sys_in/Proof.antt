@@ -1,6 +1,5 @@
 use borrow.Author.Needs.{needs}
-use borrow.Author.Tests.{not-false}
-use mathlib.Core.Path.{_∙_, _≡_, sym}
+use mathlib.Core.Path.{_∙_, sym}
 use Rattle.commands.specs.OutcomeLaws.{accept, refuse, refuse-any}
 use Rattle.commands.specs.AddSystemLaws.{sys-0, sys-19, sys-20, sys-21, sys-holds, sys-refused}
 use Rattle.rules.specs.TestLaws.{is-yes}

@@ -1,9 +1,7 @@
 use borrow.Author.Needs.{needs}
-use borrow.Author.Tests.{not-false}
-use mathlib.Core.Path.{_∙_, _≡_, sym}
+use mathlib.Core.Path.{_∙_, sym}
 use Rattle.commands.specs.OutcomeLaws.{accept, refuse, refuse-any}
 use Rattle.commands.specs.AddSystemLaws.{sysvar-0, sysvar-21, sysvar-holds, sysvar-refused}
-use Rattle.rules.specs.TestLaws.{is-yes}
 use Rattle.commands.proofs.add_sysvar_in.Statement.{statement}
 use Rattle.commands.proofs.add_sysvar_in.Tie as tie
 

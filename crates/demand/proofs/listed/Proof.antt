@@ -1,4 +1,3 @@
-use denote.Ref.{now}
 use borrow.Author.Needs.{needs}
 use Rattle.parts.specs.Demand.{parts-call-right}
 use Rattle.demand.proofs.listed.Statement.{statement}

@@ -2,7 +2,7 @@ use borrow.Author.Needs.{needs}
 use native.Mathlib.Omega.{arith}
 use Prim.Native.Nat.{_≤_, _-_}
 use mathlib.Core.Bool.{true}
-use mathlib.Core.Path.{_∙_, _≡_, ap, sym}
+use mathlib.Core.Path.{_∙_, _≡_, sym}
 use Rattle.sets.specs.Sets.{bit}
 use Rattle.sets.specs.Tests.{all}
 use Rattle.sets.specs.LoopLaws.{all-start, all-turn, all-stop, all-end}

@@ -1,8 +1,7 @@
-use mathlib.Core.Path.{_∙_, ap, sym}
+use mathlib.Core.Path.{_∙_, sym}
 use native.Mathlib.Omega.{arith}
 use borrow.Author.Needs.{needs}
 use borrow.Author.Tests.{not-false, not-true}
-use Rattle.model.specs.Questions.{firstNo}
 use Rattle.questions.specs.FirstNoLaws.{no-at, none-left, not-yes, too-large, yes-at}
 use Rattle.questions.specs.Asked.{modQuestions}
 use Rattle.questions.specs.AskedLaws.{exactly-no, exactly-yes, mod-asked, none-bits, some-bits}

@@ -1,8 +1,7 @@
-use mathlib.Core.Path.{_∙_, ap, sym}
+use mathlib.Core.Path.{_∙_, sym}
 use native.Mathlib.Omega.{arith}
 use borrow.Author.Needs.{needs}
 use borrow.Author.Tests.{not-false, not-true}
-use Rattle.model.specs.Questions.{firstNo}
 use Rattle.questions.specs.FirstNoLaws.{no-at, none-left, not-yes, too-large, yes-at}
 use Rattle.requests.specs.Answers.{modvarAnswer}
 use Rattle.questions.specs.AskedLaws.{provided-free}

@@ -1,6 +1,5 @@
 use borrow.Author.Needs.{needs}
 use mathlib.Core.List.{[]}
-use mathlib.Core.Path.{_∙_, refl, sym}
 use Rattle.requests.specs.Said.{membersOf}
 use Rattle.requests.specs.Gathered.{gather}
 use Rattle.requests.proofs.apart.Statement.{statement}

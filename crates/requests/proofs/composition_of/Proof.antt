@@ -1,9 +1,7 @@
 use denote.Ref.{now}
 use borrow.Author.Needs.{needs}
 use native.Mathlib.Omega.{arith}
-use native.Mathlib.Nat.{le-refl}
-use Prim.Native.Nat.{_≤_, _-_}
-use mathlib.Core.List.{[]}
+use Prim.Native.Nat.{_-_}
 use mathlib.Core.Option.{none}
 use lib.ListN.{length}
 use Rattle.model.specs.Book.{components}

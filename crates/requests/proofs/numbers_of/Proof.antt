@@ -1,10 +1,7 @@
 use denote.Ref.{now}
 use borrow.Author.Needs.{needs}
 use native.Mathlib.Omega.{arith}
-use native.Mathlib.Nat.{le-refl}
-use Prim.Native.Nat.{_≤_, _-_}
-use mathlib.Core.List.{[]}
-use mathlib.Core.Option.{none}
+use Prim.Native.Nat.{_-_}
 use lib.ListN.{length}
 use Rattle.model.specs.Book.{versions}
 use Rattle.requests.specs.Said.{always, implementationsSaid, isImplementation, itself, numbersOf, numbersStep}

@@ -1,6 +1,9 @@
 pub mod Room
+pub mod ByName
 pub mod RoomLaws
 pub mod DecimalLaws
 pub mod NameLaws
+pub mod BeforeLaws
+pub mod ByNameLaws
 pub mod Written
 pub mod WrittenLaws

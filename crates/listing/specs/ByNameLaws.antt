@@ -195,19 +195,21 @@ module _ (t : Table) (n : ℕ) (test : Set) where
       → byName t n test ≡ firstByName t n test ∷ byName t n (without test (firstByName t n test))
   first-then h = cases (byName t n test) refl h
 
+  pub head-below : (x : ℕ) (xs : List ℕ) → byName t n test ≡ x ∷ xs → x < n
+  unfolding byName rising elem
+  head-below x xs e = let z = sorted-below t n 0 test x (ap (elem x) e ∙ or-l _ _ (==-same x)) in omega (arith, z .1)
+
+  head-is : (x : ℕ) (xs : List ℕ) → byName t n test ≡ x ∷ xs → firstByName t n test ≡ x
+  unfolding firstByName firstOr
+  head-is x xs e = ap (firstOr n) e
+
   -- there is none
   pub first-none : n ≤ firstByName t n test → byName t n test ≡ []
   first-none h = by (byName t n test) refl
     where
       by : (l : List ℕ) → byName t n test ≡ l → byName t n test ≡ []
       by [] e = e
-      by (x ∷ xs) e = absurd (let w = above x xs e in let z = first-of x xs e in omega (arith, w .1))
-        where
-          above : (x : ℕ) (xs : List ℕ) → byName t n test ≡ x ∷ xs → (0 ≤ x) × (x < 0 + n)
-          above x xs e = unfold byName rising in sorted-below t n 0 test x (ap (elem x) e ∙ unfold elem in or-l _ _ (==-same x))
-
-          first-of : (x : ℕ) (xs : List ℕ) → byName t n test ≡ x ∷ xs → firstByName t n test ≡ x
-          first-of x xs e = unfold firstByName firstOr in ap (firstOr n) e
+      by (x ∷ xs) e = absurd (let w = head-below x xs e in let z = head-is x xs e in omega arith)
 
   -- it passes the test
   pub first-passes : firstByName t n test < n → test (firstByName t n test) ≡ true

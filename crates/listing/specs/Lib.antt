@@ -1,9 +1,12 @@
 pub mod Room
 pub mod ByName
+pub mod Pieces
 pub mod RoomLaws
 pub mod DecimalLaws
 pub mod NameLaws
 pub mod BeforeLaws
 pub mod ByNameLaws
+pub mod ListedLaws
+pub mod PieceLaws
 pub mod Written
 pub mod WrittenLaws

@@ -11,8 +11,8 @@ use lib.Seq.{length-take-le}
 use Rattle.seqs.specs.Filled.{filled}
 use Rattle.seqs.specs.FilledLaws.{filled-at, filled-length}
 use Rattle.seqs.specs.RestLaws.{rest-copied}
-use Rattle.sets.specs.TestLaws.{and-in, and-l, and-r, clash, iff→≡, ≤?-in, ≤?-out}
-use Rattle.sets.specs.Tests.{_&_, _≤?_}
+use Rattle.sets.specs.TestLaws.{and-in, and-l, and-r, clash, if-false, if-true, iff→≡, ≤?-in, ≤?-out}
+use Rattle.sets.specs.Tests.{_&_, _≤?_, if_then_else_}
 use Rattle.text.specs.Bytes.{Text}
 use Rattle.listing.specs.Room.{Puts, writtenIn}
 use Rattle.listing.specs.declared.Room.{Room}
@@ -127,6 +127,13 @@ puts-then {v = v} {w = w} {p = p} {q = q} {r = r} {a = a} {b = b} {c = c} f g = 
 -- what was written may be said otherwise
 pub puts-as : {v w : Text} {p q : Room} {a b : List ℕ} → v ≡ w → Puts v p q a b → Puts w p q a b
 puts-as {p = p} {q = q} {a = a} {b = b} e f = subst (λ (x : Text). Puts x p q a b) e f
+
+pub if-asked : (b : Bool) {w : Text} {p q : Room} {a c : List ℕ} → not b ≡ false → Puts w p q a c
+    → Puts (if b then w else []) p q a c
+if-asked b h f = puts-as (sym (if-true _ _ _ (not-false _ h))) f
+
+pub if-not-asked : (b : Bool) (w : Text) {p : Room} {a : List ℕ} → not b ≡ true → Puts (if b then w else []) p p a a
+if-not-asked b w {p = p} {a = a} h = puts-as (sym (if-false _ _ _ (not-true _ h))) (puts-none p a)
 
 -- ---- a loop
 

@@ -4,7 +4,7 @@ ghost use mathlib.Core.List.{_∷_, [], _++_};
 ghost use Prim.Native.Nat.{_*_, _<_, _≤_};
 ghost use lib.ListN.{length};
 ghost use Rattle.sets.specs.Sets.{bit};
-ghost use Rattle.sets.specs.Tests.{_&_, _≤?_};
+ghost use Rattle.sets.specs.Tests.{_&_, _≤?_, if_then_else_};
 ghost use Rattle.text.specs.Bytes.{bytes};
 ghost use Rattle.text.specs.Session.{decimal, row};
 ghost use Rattle.text.specs.Tables.{nameAt};
@@ -12,6 +12,7 @@ ghost use Rattle.text.specs.Written.{before};
 ghost use Rattle.names.specs.Stored.{tableOf};
 ghost use Rattle.listing.specs.Room.{Puts};
 ghost use Rattle.listing.specs.ByName.{firstWith, firstByName};
+ghost use Rattle.listing.specs.Pieces.{namesOf};
 ghost use Rattle.listing.specs.Written.{wrote, startingWith, pairOf};
 
 // The bytes of a table's place.
@@ -275,4 +276,42 @@ pub fn first_by_name(names: &[u8], places: usize, set: u64) -> usize
         best = first_with(names, places, set, k, best);
     }
     best
+}
+
+// ---- pieces of a line
+
+fn put_if(out: &mut [u8], room: Room, asked: bool, word: &[u8]) -> Room
+    ensures { λ r. ⌜ Puts (if asked then now (word .entry) else []) room r (now (out .entry)) (now (out .exit)) ⌝ }
+{
+    if !asked {
+        return room;
+    }
+    put(out, room, word)
+}
+
+// The name of number k, and a comma where there are more.
+fn put_listed(out: &mut [u8], room: Room, names: &[u8], places: usize, k: usize, more: bool) -> Room
+    requires { ⌜ length (now names) ≡ places * 33 ⌝ }
+    ensures { λ r. ⌜ Puts (nameAt (tableOf places (now (names .entry))) k ++ (if more then bytes ", " else [])) room r (now (out .entry)) (now (out .exit)) ⌝ }
+{
+    let a = put(out, room, name(names, places, k));
+    put_if(out, a, more, b", ")
+}
+
+// The names of a set.
+fn put_names(out: &mut [u8], room: Room, names: &[u8], places: usize, set: u64) -> Room
+    requires { ⌜ length (now names) ≡ places * 33 ⌝ }
+    requires { ⌜ places ≤ 64 ⌝ }
+    ensures { λ r. ⌜ Puts (namesOf (now (names .entry)) places (bit set)) room r (now (out .entry)) (now (out .exit)) ⌝ }
+{
+    let mut after = room;
+    let mut rest = set;
+    let mut k = first_by_name(names, places, rest);
+    while k < places {
+        rest = sets::without(rest, k);
+        let next = first_by_name(names, places, rest);
+        after = put_listed(out, after, names, places, k, next < places);
+        k = next;
+    }
+    after
 }

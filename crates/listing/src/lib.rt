@@ -1,5 +1,6 @@
 // Rows and the text of a book, written into the rest of a lent slice.
 ghost use mathlib.Core.Path.{_≡_};
+ghost use mathlib.Core.Bool.{true};
 ghost use mathlib.Core.List.{_∷_, [], _++_};
 ghost use Prim.Native.Nat.{_*_, _<_, _≤_};
 ghost use lib.ListN.{length};
@@ -9,10 +10,12 @@ ghost use Rattle.text.specs.Bytes.{bytes};
 ghost use Rattle.text.specs.Session.{decimal, row};
 ghost use Rattle.text.specs.Tables.{nameAt};
 ghost use Rattle.text.specs.Written.{before};
-ghost use Rattle.names.specs.Stored.{tableOf};
+ghost use Rattle.names.specs.Stored.{tableOf, tablesOf};
 ghost use Rattle.listing.specs.Room.{Puts};
 ghost use Rattle.listing.specs.ByName.{firstWith, firstByName};
-ghost use Rattle.listing.specs.Pieces.{namesOf};
+ghost use Rattle.listing.specs.Pieces.{namesOf, requiredText, specVersion, modVersion, memberText, membersText, sysVersion};
+ghost use Rattle.model.specs.Book.{isMember};
+ghost use Rattle.book.specs.Plain.{plainOf, systemsOf};
 ghost use Rattle.listing.specs.Written.{wrote, startingWith, pairOf};
 
 // The bytes of a table's place.
@@ -314,4 +317,85 @@ fn put_names(out: &mut [u8], room: Room, names: &[u8], places: usize, set: u64) 
         k = next;
     }
     after
+}
+
+// What a version requires, by the set of it.
+fn put_required(out: &mut [u8], room: Room, facs: &[u8; 2112], set: u64) -> Room
+    ensures { λ r. ⌜ Puts (requiredText (now (facs .entry)) (bit set)) room r (now (out .entry)) (now (out .exit)) ⌝ }
+{
+    let first = first_by_name(facs, 64, set);
+    let a = put_if(out, room, first < 64, b" requires ");
+    put_names(out, a, facs, 64, set)
+}
+
+// A version of a spec.
+fn put_spec_version<'a>(
+    out: &mut [u8],
+    room: Room,
+    sets: &'a [u64; 576],
+    numbers: &'a [u8; 8768],
+    comps: &'a [u8; 1056],
+    vers: &'a [u8; 2112],
+    facs: &'a [u8; 2112],
+    impls: &'a [u8; 8448],
+    c: usize,
+    v: usize,
+) -> Room
+    requires { ⌜ c < 32 ⌝ }
+    ensures { λ r. ⌜ Puts (specVersion (plainOf (now (sets .entry)) (now (numbers .entry))) (tablesOf (now (comps .entry)) (now (vers .entry)) (now (facs .entry)) (now (impls .entry))) c v) room r (now (out .entry)) (now (out .exit)) ⌝ }
+{
+    let word = name(vers, 64, v);
+    let standard = seqs::same(word, name(vers, 64, book::standard(sets, numbers, c)));
+    let a = put_if(out, room, standard, b"std ");
+    let b = put(out, a, word);
+    put_required(out, b, facs, book::required(sets, numbers, c, v))
+}
+
+// A version of a module.
+fn put_mod_version<'a>(
+    out: &mut [u8],
+    room: Room,
+    sets: &'a [u64; 576],
+    numbers: &'a [u8; 8768],
+    comps: &'a [u8; 1056],
+    vers: &'a [u8; 2112],
+    facs: &'a [u8; 2112],
+    impls: &'a [u8; 8448],
+    c: usize,
+    v: usize,
+) -> Room
+    requires { ⌜ c < 32 ⌝ }
+    ensures { λ r. ⌜ Puts (modVersion (plainOf (now (sets .entry)) (now (numbers .entry))) (tablesOf (now (comps .entry)) (now (vers .entry)) (now (facs .entry)) (now (impls .entry))) c v) room r (now (out .entry)) (now (out .exit)) ⌝ }
+{
+    let a = put(out, room, name(vers, 64, v));
+    let b = put(out, a, b" impl \"");
+    let i = wide(book::implementation(sets, numbers, c, v));
+    let d = put(out, b, name(impls, 256, i));
+    put(out, d, b"\"")
+}
+
+// "Members show their version." And a comma where there are more.
+fn put_member<'a>(
+    out: &mut [u8],
+    room: Room,
+    sets: &'a [u64; 576],
+    numbers: &'a [u8; 8768],
+    comps: &'a [u8; 1056],
+    vers: &'a [u8; 2112],
+    facs: &'a [u8; 2112],
+    impls: &'a [u8; 8448],
+    s: usize,
+    v: usize,
+    c: usize,
+    more: bool,
+) -> Room
+    requires { ⌜ (s < 32) × (c < 32) ⌝ }
+    requires { ⌜ isMember (systemsOf (now sets) (now numbers)) s v c ≡ true ⌝ }
+    ensures { λ r. ⌜ Puts (memberText (plainOf (now (sets .entry)) (now (numbers .entry))) (tablesOf (now (comps .entry)) (now (vers .entry)) (now (facs .entry)) (now (impls .entry))) s v c ++ (if more then bytes ", " else [])) room r (now (out .entry)) (now (out .exit)) ⌝ }
+{
+    let a = put(out, room, name(comps, 32, c));
+    let b = put(out, a, b".");
+    let w = book::member_version(sets, numbers, s, v, c);
+    let d = put(out, b, name(vers, 64, w));
+    put_if(out, d, more, b", ")
 }

@@ -1,6 +1,6 @@
 -- Laws of the pieces of a line: what each writer's calls write, one after the other, is the piece.
 use mathlib.Core.Bool.{Bool}
-use mathlib.Core.List.{List, [], _++_, _∷_, append-assoc, map}
+use mathlib.Core.List.{List, [], _++_, _∷_, map, map-map}
 use mathlib.Core.Option.{some}
 use mathlib.Core.Path.{_∙_, _≡_, ap, ap₂, refl, subst, sym}
 use Prim.Native.Nat.{_<_, ℕ}
@@ -12,14 +12,16 @@ use Rattle.sets.specs.Sets.{Set}
 use Rattle.sets.specs.TestLaws.{<?-in, <?-out, fails, if-false, if-true}
 use Rattle.sets.specs.Tests.{_<?_, if_then_else_}
 use Rattle.text.specs.Bytes.{Text, bytes, same}
-use Rattle.text.specs.Tables.{nameAt}
+use Rattle.text.specs.Tables.{Tables, nameAt}
 use Rattle.text.specs.Written.{byName, commas, facilityNames, memberPiece, membersOf, modPiece, parted, requiring, specPiece, sysPiece}
 use Rattle.text_theorems.specs.TextLaws.{or-at}
 use Rattle.listing.specs.ByName.{firstByName, firstOr, listed}
 use Rattle.listing.specs.ByNameLaws.{head-below}
-use Rattle.listing.specs.Pieces.{memberText, modVersion, namesOf, requiredText, specVersion}
+use Rattle.listing.specs.Pieces.{memberText, modVersion, namesOf, requiredText, specVersion, sysVersion, versionOf}
 use Rattle.listing.specs.Room.{Puts}
 use Rattle.listing.specs.RoomLaws.{puts-as, puts-then}
+use Rattle.listing.specs.declared.Kind.{Kind}
+use Rattle.listing.specs.declared.Kind.the-variants.{Module, Spec, System}
 use Rattle.listing.specs.declared.Room.{Room}
 
 -- a name and a comma
@@ -83,3 +85,37 @@ pub member-is : (cs vs fs is : List ℕ) (b : Book) (s v c : ℕ) (more : Bool) 
 unfolding memberText memberPiece tablesOf
 member-is cs vs fs is b s v c more e f g h i j k =
     puts-then (puts-then (puts-as e h) (puts-then i (puts-as (g ∙ ap (nameAt (tableOf versions vs)) (sym (or-at _ _ f))) j))) k
+
+module _ (cs vs fs is : List ℕ) (b : Book) (c v : ℕ) where
+  members-text : commas (map memberPiece (membersOf b (tablesOf cs vs fs is) c v))
+      ≡ listed (bytes ", ") (memberText b (tablesOf cs vs fs is) c v) (tableOf components cs) components (isMember (b .systems) c v)
+  unfolding commas membersOf tablesOf listed memberText
+  members-text = ap (parted (bytes ", ")) (map-map memberPiece _ (byName (tableOf components cs) components (isMember (b .systems) c v)))
+
+  pub sys-version-is : {w : Text} {s : Set} {p q r t : Room} {x y z o : List ℕ} → w ≡ nameAt (tableOf versions vs) v
+      → s ≡ isMember (b .systems) c v → Puts w p q x y → Puts (bytes " = ") q r y z
+      → Puts (listed (bytes ", ") (memberText b (tablesOf cs vs fs is) c v) (tableOf components cs) components s) r t z o
+      → Puts (sysVersion b (tablesOf cs vs fs is) c v) p t x o
+  unfolding sysVersion sysPiece tablesOf
+  sys-version-is e f g h i =
+      puts-then (puts-as e g) (puts-then h (puts-as (ap (listed (bytes ", ") (memberText b (tablesOf cs vs fs is) c v)
+      (tableOf components cs) components) f ∙ sym members-text) i))
+
+-- by kind
+module _ (b : Book) (t : Tables) (c v : ℕ) {k : Kind} {p q : Room} {x y : List ℕ} where
+  pub spec-version : k ≡ Spec → Puts (specVersion b t c v) p q x y → Puts (versionOf k b t c v) p q x y
+  unfolding versionOf
+  spec-version e = puts-as (sym (ap (λ (i : Kind). versionOf i b t c v) e))
+
+  pub mod-version : k ≡ Module → Puts (modVersion b t c v) p q x y → Puts (versionOf k b t c v) p q x y
+  unfolding versionOf
+  mod-version e = puts-as (sym (ap (λ (i : Kind). versionOf i b t c v) e))
+
+  pub sys-version : k ≡ System → Puts (sysVersion b t c v) p q x y → Puts (versionOf k b t c v) p q x y
+  unfolding versionOf
+  sys-version e = puts-as (sym (ap (λ (i : Kind). versionOf i b t c v) e))
+
+pub version-and : (k : Kind) (b : Book) (t : Tables) (c v : ℕ) (more : Bool) {p q r : Room} {x y z : List ℕ}
+    → Puts (versionOf k b t c v) p q x y → Puts (if more then bytes "; " else []) q r y z
+    → Puts (versionOf k b t c v ++ (if more then bytes "; " else [])) p r x z
+version-and k b t c v more f g = puts-then f g

@@ -2,7 +2,7 @@
 use mathlib.Core.List.{List, map}
 use mathlib.Core.Option.{some}
 use Prim.Native.Nat.{ℕ}
-use Rattle.model.specs.Book.{Book, components, facilities, implementation, isMember, member, requires, standard}
+use Rattle.model.specs.Book.{Book, facilities, implementation, member, requires, standard}
 use Rattle.model.specs.Maps.{orElse}
 use Rattle.names.specs.Stored.{tableOf}
 use Rattle.sets.specs.Sets.{Set}
@@ -10,6 +10,8 @@ use Rattle.text.specs.Bytes.{Text, bytes}
 use Rattle.text.specs.Tables.{Tables, nameAt}
 use Rattle.text.specs.Written.{byName, facilityNames, memberPiece, membersOf, modPiece, requiring, specPiece, sysPiece}
 use Rattle.listing.specs.ByName.{listed}
+use Rattle.listing.specs.declared.Kind.{Kind}
+use Rattle.listing.specs.declared.Kind.the-variants.{Module, Spec, System}
 
 -- the names of the numbers that pass the test
 unfoldable pub namesOf : List ℕ → ℕ → Set → Text
@@ -34,10 +36,12 @@ unfoldable pub memberText : Book → Tables → ℕ → ℕ → ℕ → Text
 memberText b t s v c =
     memberPiece (nameAt (t .comps) c, some (nameAt (t .vers) (orElse (member (b .systems) s v c) 0)))
 
--- all of them
-unfoldable pub membersText : Book → Tables → ℕ → ℕ → Text
-membersText b t s v = listed (bytes ", ") (memberText b t s v) (t .comps) components (isMember (b .systems) s v)
-
 -- a version of the system s
 unfoldable pub sysVersion : Book → Tables → ℕ → ℕ → Text
 sysVersion b t s v = sysPiece (nameAt (t .vers) v, membersOf b t s v)
+
+-- a version of c in its line
+unfoldable pub versionOf : Kind → Book → Tables → ℕ → ℕ → Text
+versionOf Spec b t c v = specVersion b t c v
+versionOf Module b t c v = modVersion b t c v
+versionOf System b t c v = sysVersion b t c v

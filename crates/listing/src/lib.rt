@@ -12,8 +12,8 @@ ghost use Rattle.text.specs.Tables.{nameAt};
 ghost use Rattle.text.specs.Written.{before};
 ghost use Rattle.names.specs.Stored.{tableOf, tablesOf};
 ghost use Rattle.listing.specs.Room.{Puts};
-ghost use Rattle.listing.specs.ByName.{firstWith, firstByName};
-ghost use Rattle.listing.specs.Pieces.{namesOf, requiredText, specVersion, modVersion, memberText, membersText, sysVersion};
+ghost use Rattle.listing.specs.ByName.{firstWith, firstByName, listed};
+ghost use Rattle.listing.specs.Pieces.{namesOf, requiredText, specVersion, modVersion, memberText, sysVersion, versionOf};
 ghost use Rattle.model.specs.Book.{isMember};
 ghost use Rattle.book.specs.Plain.{plainOf, systemsOf};
 ghost use Rattle.listing.specs.Written.{wrote, startingWith, pairOf};
@@ -398,4 +398,186 @@ fn put_member<'a>(
     let w = book::member_version(sets, numbers, s, v, c);
     let d = put(out, b, name(vers, 64, w));
     put_if(out, d, more, b", ")
+}
+
+// The members of version v of system s, which are the set.
+fn put_members<'a>(
+    out: &mut [u8],
+    room: Room,
+    sets: &'a [u64; 576],
+    numbers: &'a [u8; 8768],
+    comps: &'a [u8; 1056],
+    vers: &'a [u8; 2112],
+    facs: &'a [u8; 2112],
+    impls: &'a [u8; 8448],
+    s: usize,
+    v: usize,
+    set: u64,
+) -> Room
+    requires { ⌜ s < 32 ⌝ }
+    requires { ⌜ bit set ≡ isMember (systemsOf (now sets) (now numbers)) s v ⌝ }
+    ensures { λ r. ⌜ Puts (listed (bytes ", ") (memberText (plainOf (now (sets .entry)) (now (numbers .entry))) (tablesOf (now (comps .entry)) (now (vers .entry)) (now (facs .entry)) (now (impls .entry))) s v) (tableOf 32 (now (comps .entry))) 32 (bit set)) room r (now (out .entry)) (now (out .exit)) ⌝ }
+{
+    let mut after = room;
+    let mut rest = set;
+    let mut k = first_by_name(comps, 32, rest);
+    while k < 32 {
+        rest = sets::without(rest, k);
+        let next = first_by_name(comps, 32, rest);
+        after = put_member(
+            out,
+            after,
+            sets,
+            numbers,
+            comps,
+            vers,
+            facs,
+            impls,
+            s,
+            v,
+            k,
+            next < 32,
+        );
+        k = next;
+    }
+    after
+}
+
+// A version of a system.
+fn put_sys_version<'a>(
+    out: &mut [u8],
+    room: Room,
+    sets: &'a [u64; 576],
+    numbers: &'a [u8; 8768],
+    comps: &'a [u8; 1056],
+    vers: &'a [u8; 2112],
+    facs: &'a [u8; 2112],
+    impls: &'a [u8; 8448],
+    c: usize,
+    v: usize,
+) -> Room
+    requires { ⌜ c < 32 ⌝ }
+    ensures { λ r. ⌜ Puts (sysVersion (plainOf (now (sets .entry)) (now (numbers .entry))) (tablesOf (now (comps .entry)) (now (vers .entry)) (now (facs .entry)) (now (impls .entry))) c v) room r (now (out .entry)) (now (out .exit)) ⌝ }
+{
+    let a = put(out, room, name(vers, 64, v));
+    let b = put(out, a, b" = ");
+    put_members(
+        out,
+        b,
+        sets,
+        numbers,
+        comps,
+        vers,
+        facs,
+        impls,
+        c,
+        v,
+        book::members(sets, numbers, c, v),
+    )
+}
+
+// What a line tells of a component.
+pub enum Kind {
+    Spec,
+    Module,
+    System,
+}
+
+fn put_version<'a>(
+    out: &mut [u8],
+    room: Room,
+    sets: &'a [u64; 576],
+    numbers: &'a [u8; 8768],
+    comps: &'a [u8; 1056],
+    vers: &'a [u8; 2112],
+    facs: &'a [u8; 2112],
+    impls: &'a [u8; 8448],
+    kind: Kind,
+    c: usize,
+    v: usize,
+) -> Room
+    requires { ⌜ c < 32 ⌝ }
+    ensures { λ r. ⌜ Puts (versionOf kind (plainOf (now (sets .entry)) (now (numbers .entry))) (tablesOf (now (comps .entry)) (now (vers .entry)) (now (facs .entry)) (now (impls .entry))) c v) room r (now (out .entry)) (now (out .exit)) ⌝ }
+{
+    match kind {
+        Kind::Spec => put_spec_version(out, room, sets, numbers, comps, vers, facs, impls, c, v),
+        Kind::Module => put_mod_version(out, room, sets, numbers, comps, vers, facs, impls, c, v),
+        Kind::System => put_sys_version(out, room, sets, numbers, comps, vers, facs, impls, c, v),
+    }
+}
+
+// "Several versions are parted by "; "."
+fn put_version_and<'a>(
+    out: &mut [u8],
+    room: Room,
+    sets: &'a [u64; 576],
+    numbers: &'a [u8; 8768],
+    comps: &'a [u8; 1056],
+    vers: &'a [u8; 2112],
+    facs: &'a [u8; 2112],
+    impls: &'a [u8; 8448],
+    kind: Kind,
+    c: usize,
+    v: usize,
+    more: bool,
+) -> Room
+    requires { ⌜ c < 32 ⌝ }
+    ensures { λ r. ⌜ Puts (versionOf kind (plainOf (now (sets .entry)) (now (numbers .entry))) (tablesOf (now (comps .entry)) (now (vers .entry)) (now (facs .entry)) (now (impls .entry))) c v ++ (if more then bytes "; " else [])) room r (now (out .entry)) (now (out .exit)) ⌝ }
+{
+    let a = put_version(
+        out,
+        room,
+        sets,
+        numbers,
+        comps,
+        vers,
+        facs,
+        impls,
+        kind,
+        c,
+        v,
+    );
+    put_if(out, a, more, b"; ")
+}
+
+// The versions of a set.
+fn put_versions<'a>(
+    out: &mut [u8],
+    room: Room,
+    sets: &'a [u64; 576],
+    numbers: &'a [u8; 8768],
+    comps: &'a [u8; 1056],
+    vers: &'a [u8; 2112],
+    facs: &'a [u8; 2112],
+    impls: &'a [u8; 8448],
+    kind: Kind,
+    c: usize,
+    set: u64,
+) -> Room
+    requires { ⌜ c < 32 ⌝ }
+    ensures { λ r. ⌜ Puts (listed (bytes "; ") (versionOf kind (plainOf (now (sets .entry)) (now (numbers .entry))) (tablesOf (now (comps .entry)) (now (vers .entry)) (now (facs .entry)) (now (impls .entry))) c) (tableOf 64 (now (vers .entry))) 64 (bit set)) room r (now (out .entry)) (now (out .exit)) ⌝ }
+{
+    let mut after = room;
+    let mut rest = set;
+    let mut k = first_by_name(vers, 64, rest);
+    while k < 64 {
+        rest = sets::without(rest, k);
+        let next = first_by_name(vers, 64, rest);
+        after = put_version_and(
+            out,
+            after,
+            sets,
+            numbers,
+            comps,
+            vers,
+            facs,
+            impls,
+            kind,
+            c,
+            k,
+            next < 64,
+        );
+        k = next;
+    }
+    after
 }

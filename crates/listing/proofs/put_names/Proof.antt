@@ -1,21 +1,20 @@
 use native.Mathlib.Omega.{arith}
-use mathlib.Core.Path.{_≡_, refl}
-use Rattle.sets.specs.Tests.{_<?_}
+use mathlib.Core.Path.{refl}
 use lib.ListN.{length}
 use Rattle.sets.specs.Sets.{bit}
-use Rattle.names.specs.Stored.{tableOf}
+use Rattle.sets.specs.Tests.{_<?_}
+use Rattle.names.specs.Stored.{tableOf, tablesOf}
+use Rattle.text.specs.Bytes.{bytes}
 use Rattle.text.specs.Written.{byName}
-use Rattle.listing.specs.ByName.{firstByName}
-use Rattle.listing.specs.ListedLaws.{fewer, listed-end, listed-turn}
+use Rattle.listing.specs.ListedLaws.{Listing, listing-end, listing-keeps, listing-less, listing-start, listing-turn}
+use Rattle.text.specs.Tables.{nameAt}
 use Rattle.listing.specs.Pieces.{namesOf}
-use Rattle.listing.specs.RoomLaws.{Partly, partly-keeps, partly-start}
 use Rattle.listing.proofs.put_names.Statement.{statement}
 use Rattle.listing.proofs.put_names.Tie as tie
 
 abbrev Inv-loop : tie.InvT-loop
 Inv-loop out₀ names places set after₀ rest₀ k₀ out after rest k =
-    (k ≡ firstByName (tableOf places names) places (bit rest))
-    × Partly (namesOf names places (bit set)) (namesOf names places (bit rest)) after₀ after out₀ out
+    Listing (bytes ", ") (nameAt (tableOf places names)) (tableOf places names) places (bit set) (bit rest) k after₀ after out₀ out
 
 abbrev μ-loop : tie.MeasureT-loop
 μ-loop out₀ names places set after₀ rest₀ k₀ out after rest k = length (byName (tableOf places names) places (bit rest))
@@ -30,24 +29,18 @@ put-listed-requires : tie.Need-put-listed-requires Inv-loop μ-loop
 put-listed-requires c κs = c .before .before .before .before .before .before .before .before .pre .0
 
 loop-less : tie.Need-loop-less Inv-loop μ-loop
-loop-less c = fewer _ _ _ _ _ (c .before .before .before .before .before .before .before .loop .inv .0) (c .before .before .before .before .before .before .loop-test .taken) (c .before .before .before .before .before .without .ensures)
+loop-less c = listing-less (c .before .before .before .before .before .before .before .loop .inv) (c .before .before .before .before .before .before .loop-test .taken) (c .before .before .before .before .before .without .ensures)
 
 loop-again : tie.Need-loop-again Inv-loop μ-loop
-unfolding namesOf _<?_
-loop-again c = (
-  c .before .before .before .before .first-by-name2 .ensures,
-  listed-turn _ _ _ _ _ (c .before .before .before .before .before .before .before .loop .inv .1) (c .before .before .before .before .before .before .before .loop .inv .0) (c .before .before .before .before .before .before .loop-test .taken) _ (c .before .before .before .before .before .without .ensures)
-      (c .before .before .before .before .first-by-name2 .ensures) refl (c .before .before .put-listed .ensures),
-)
+unfolding _<?_
+loop-again c = listing-turn (c .before .before .before .before .before .before .before .loop .inv) (c .before .before .before .before .before .before .loop-test .taken) (c .before .before .before .before .before .without .ensures) (c .before .before .before .before .first-by-name2 .ensures) refl (c .before .before .put-listed .ensures)
 
 returns : tie.Need-returns Inv-loop μ-loop
 unfolding namesOf
-returns c = listed-end _ _ _ _ _ (c .before .loop .inv .1) (c .before .loop .inv .0) (c .loop-test .left)
+returns c = listing-end (c .before .loop .inv) (c .loop-test .left)
 
 pub put-names-spec : {M : Type 1} → statement M
 put-names-spec = tie.close
-    (tie.spec Inv-loop μ-loop (λ c κs. (c .before .before .pre .0, c .before .before .pre .1)) (λ c. (
-      c .first-by-name .ensures,
-      partly-start _ _ _,
-    )) without-requires first-by-name-requires-2 put-listed-requires loop-less loop-again (λ c.
-    partly-keeps (c .before .loop .inv .1)) returns)
+    (tie.spec Inv-loop μ-loop (λ c κs. (c .before .before .pre .0, c .before .before .pre .1)) (λ c. listing-start (c .first-by-name
+    .ensures)) without-requires first-by-name-requires-2 put-listed-requires loop-less loop-again (λ c. listing-keeps (c
+    .before .loop .inv)) returns)

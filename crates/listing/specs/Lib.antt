@@ -1,6 +1,7 @@
 pub mod Room
 pub mod ByName
 pub mod Pieces
+pub mod Lines
 pub mod RoomLaws
 pub mod DecimalLaws
 pub mod NameLaws
@@ -8,5 +9,7 @@ pub mod BeforeLaws
 pub mod ByNameLaws
 pub mod ListedLaws
 pub mod PieceLaws
+pub mod LineLaws
+pub mod ComponentLaws
 pub mod Written
 pub mod WrittenLaws

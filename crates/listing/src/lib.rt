@@ -4,18 +4,19 @@ ghost use mathlib.Core.Bool.{true};
 ghost use mathlib.Core.List.{_∷_, [], _++_};
 ghost use Prim.Native.Nat.{_*_, _<_, _≤_};
 ghost use lib.ListN.{length};
-ghost use Rattle.sets.specs.Sets.{bit};
+ghost use Rattle.sets.specs.Sets.{bit, below};
 ghost use Rattle.sets.specs.Tests.{_&_, _≤?_, if_then_else_};
 ghost use Rattle.text.specs.Bytes.{bytes};
 ghost use Rattle.text.specs.Session.{decimal, row};
 ghost use Rattle.text.specs.Tables.{nameAt};
-ghost use Rattle.text.specs.Written.{before};
+ghost use Rattle.text.specs.Written.{before, line, specOf, modOf, sysOf};
 ghost use Rattle.names.specs.Stored.{tableOf, tablesOf};
 ghost use Rattle.listing.specs.Room.{Puts};
 ghost use Rattle.listing.specs.ByName.{firstWith, firstByName, listed};
 ghost use Rattle.listing.specs.Pieces.{namesOf, requiredText, specVersion, modVersion, memberText, sysVersion, versionOf};
-ghost use Rattle.model.specs.Book.{isMember};
-ghost use Rattle.book.specs.Plain.{plainOf, systemsOf};
+ghost use Rattle.listing.specs.Lines.{ifAsked, versionsIn, endingOf, lineOf, hasLine, withIf};
+ghost use Rattle.model.specs.Book.{hasVersion, isMember};
+ghost use Rattle.book.specs.Plain.{plainOf, specsOf, systemsOf};
 ghost use Rattle.listing.specs.Written.{wrote, startingWith, pairOf};
 
 // The bytes of a table's place.
@@ -580,4 +581,239 @@ fn put_versions<'a>(
         k = next;
     }
     after
+}
+
+// ---- lines
+
+// The versions of component c, if it is what is asked for.
+fn versions_if<'a>(sets: &'a [u64; 576], numbers: &'a [u8; 8768], asked: bool, c: usize) -> u64
+    requires { ⌜ c < 32 ⌝ }
+    ensures { λ r. ⌜ bit r ≡ ifAsked asked (hasVersion (specsOf (now (sets .entry)) (now (numbers .entry))) c) ⌝ }
+{
+    if !asked {
+        return 0;
+    }
+    book::versions(sets, numbers, c)
+}
+
+// The versions that the line of c tells.
+fn versions_in<'a>(sets: &'a [u64; 576], numbers: &'a [u8; 8768], kind: Kind, c: usize) -> u64
+    requires { ⌜ c < 32 ⌝ }
+    ensures { λ r. ⌜ bit r ≡ versionsIn kind (plainOf (now (sets .entry)) (now (numbers .entry))) c ⌝ }
+{
+    match kind {
+        Kind::Spec => book::versions(sets, numbers, c),
+        Kind::Module => versions_if(sets, numbers, book::is_module(sets, numbers, c), c),
+        Kind::System => versions_if(sets, numbers, book::is_system(sets, numbers, c), c),
+    }
+}
+
+// "Every line ends with a line feed."
+fn put_ending<'a>(
+    out: &mut [u8],
+    room: Room,
+    sets: &'a [u64; 576],
+    numbers: &'a [u8; 8768],
+    comps: &'a [u8; 1056],
+    vers: &'a [u8; 2112],
+    facs: &'a [u8; 2112],
+    impls: &'a [u8; 8448],
+    kind: Kind,
+    c: usize,
+) -> Room
+    requires { ⌜ c < 32 ⌝ }
+    ensures { λ r. ⌜ Puts (endingOf kind (plainOf (now (sets .entry)) (now (numbers .entry))) (tablesOf (now (comps .entry)) (now (vers .entry)) (now (facs .entry)) (now (impls .entry))) c) room r (now (out .entry)) (now (out .exit)) ⌝ }
+{
+    let a = put(out, room, b"; ");
+    let set = versions_in(sets, numbers, kind, c);
+    let b = put_versions(
+        out,
+        a,
+        sets,
+        numbers,
+        comps,
+        vers,
+        facs,
+        impls,
+        kind,
+        c,
+        set,
+    );
+    put(out, b, b" end\n")
+}
+
+fn put_spec_line<'a>(
+    out: &mut [u8],
+    room: Room,
+    sets: &'a [u64; 576],
+    numbers: &'a [u8; 8768],
+    comps: &'a [u8; 1056],
+    vers: &'a [u8; 2112],
+    facs: &'a [u8; 2112],
+    impls: &'a [u8; 8448],
+    c: usize,
+) -> Room
+    requires { ⌜ c < 32 ⌝ }
+    ensures { λ r. ⌜ Puts (line (specOf (plainOf (now (sets .entry)) (now (numbers .entry))) (tablesOf (now (comps .entry)) (now (vers .entry)) (now (facs .entry)) (now (impls .entry))) c)) room r (now (out .entry)) (now (out .exit)) ⌝ }
+{
+    let a = put(out, room, b"spec ");
+    let b = put(out, a, name(comps, 32, c));
+    let d = put(out, b, b" provides ");
+    let e = put_names(out, d, facs, 64, book::provides(sets, numbers, c));
+    put_ending(
+        out,
+        e,
+        sets,
+        numbers,
+        comps,
+        vers,
+        facs,
+        impls,
+        Kind::Spec,
+        c,
+    )
+}
+
+fn put_mod_line<'a>(
+    out: &mut [u8],
+    room: Room,
+    sets: &'a [u64; 576],
+    numbers: &'a [u8; 8768],
+    comps: &'a [u8; 1056],
+    vers: &'a [u8; 2112],
+    facs: &'a [u8; 2112],
+    impls: &'a [u8; 8448],
+    c: usize,
+) -> Room
+    requires { ⌜ c < 32 ⌝ }
+    ensures { λ r. ⌜ Puts (line (modOf (plainOf (now (sets .entry)) (now (numbers .entry))) (tablesOf (now (comps .entry)) (now (vers .entry)) (now (facs .entry)) (now (impls .entry))) c)) room r (now (out .entry)) (now (out .exit)) ⌝ }
+{
+    let a = put(out, room, b"mod ");
+    let b = put(out, a, name(comps, 32, c));
+    put_ending(
+        out,
+        b,
+        sets,
+        numbers,
+        comps,
+        vers,
+        facs,
+        impls,
+        Kind::Module,
+        c,
+    )
+}
+
+fn put_sys_line<'a>(
+    out: &mut [u8],
+    room: Room,
+    sets: &'a [u64; 576],
+    numbers: &'a [u8; 8768],
+    comps: &'a [u8; 1056],
+    vers: &'a [u8; 2112],
+    facs: &'a [u8; 2112],
+    impls: &'a [u8; 8448],
+    c: usize,
+) -> Room
+    requires { ⌜ c < 32 ⌝ }
+    ensures { λ r. ⌜ Puts (line (sysOf (plainOf (now (sets .entry)) (now (numbers .entry))) (tablesOf (now (comps .entry)) (now (vers .entry)) (now (facs .entry)) (now (impls .entry))) c)) room r (now (out .entry)) (now (out .exit)) ⌝ }
+{
+    let a = put(out, room, b"sys ");
+    let b = put(out, a, name(comps, 32, c));
+    let d = put(out, b, b" use ");
+    let e = put_names(out, d, comps, 32, book::usable(sets, numbers, c));
+    put_ending(
+        out,
+        e,
+        sets,
+        numbers,
+        comps,
+        vers,
+        facs,
+        impls,
+        Kind::System,
+        c,
+    )
+}
+
+fn put_line<'a>(
+    out: &mut [u8],
+    room: Room,
+    sets: &'a [u64; 576],
+    numbers: &'a [u8; 8768],
+    comps: &'a [u8; 1056],
+    vers: &'a [u8; 2112],
+    facs: &'a [u8; 2112],
+    impls: &'a [u8; 8448],
+    kind: Kind,
+    c: usize,
+) -> Room
+    requires { ⌜ c < 32 ⌝ }
+    ensures { λ r. ⌜ Puts (lineOf kind (plainOf (now (sets .entry)) (now (numbers .entry))) (tablesOf (now (comps .entry)) (now (vers .entry)) (now (facs .entry)) (now (impls .entry))) c) room r (now (out .entry)) (now (out .exit)) ⌝ }
+{
+    match kind {
+        Kind::Spec => put_spec_line(out, room, sets, numbers, comps, vers, facs, impls, c),
+        Kind::Module => put_mod_line(out, room, sets, numbers, comps, vers, facs, impls, c),
+        Kind::System => put_sys_line(out, room, sets, numbers, comps, vers, facs, impls, c),
+    }
+}
+
+// The lines of a set of components.
+fn put_lines<'a>(
+    out: &mut [u8],
+    room: Room,
+    sets: &'a [u64; 576],
+    numbers: &'a [u8; 8768],
+    comps: &'a [u8; 1056],
+    vers: &'a [u8; 2112],
+    facs: &'a [u8; 2112],
+    impls: &'a [u8; 8448],
+    kind: Kind,
+    set: u64,
+) -> Room
+    ensures { λ r. ⌜ Puts (listed [] (lineOf kind (plainOf (now (sets .entry)) (now (numbers .entry))) (tablesOf (now (comps .entry)) (now (vers .entry)) (now (facs .entry)) (now (impls .entry)))) (tableOf 32 (now (comps .entry))) 32 (bit set)) room r (now (out .entry)) (now (out .exit)) ⌝ }
+{
+    let mut after = room;
+    let mut rest = set;
+    let mut k = first_by_name(comps, 32, rest);
+    while k < 32 {
+        rest = sets::without(rest, k);
+        after = put_line(out, after, sets, numbers, comps, vers, facs, impls, kind, k);
+        k = first_by_name(comps, 32, rest);
+    }
+    after
+}
+
+// ---- the components that have a line
+
+fn has_line<'a>(sets: &'a [u64; 576], numbers: &'a [u8; 8768], kind: Kind, c: usize) -> bool
+    requires { ⌜ c < 32 ⌝ }
+    ensures { λ r. ⌜ r ≡ hasLine kind (plainOf (now (sets .entry)) (now (numbers .entry))) c ⌝ }
+{
+    match kind {
+        Kind::Spec => book::is_specified(sets, numbers, c),
+        Kind::Module => book::is_module(sets, numbers, c),
+        Kind::System => book::is_system(sets, numbers, c),
+    }
+}
+
+fn with_if(set: u64, c: usize, asked: bool) -> u64
+    requires { ⌜ c < 64 ⌝ }
+    ensures { λ r. ⌜ bit r ≡ withIf (bit set) c asked ⌝ }
+{
+    if !asked {
+        return set;
+    }
+    sets::with(set, c)
+}
+
+fn components_of<'a>(sets: &'a [u64; 576], numbers: &'a [u8; 8768], kind: Kind) -> u64
+    ensures { λ r. ⌜ bit r ≡ below 32 (hasLine kind (plainOf (now (sets .entry)) (now (numbers .entry)))) ⌝ }
+{
+    let mut set: u64 = 0;
+    for c in 0..32 {
+        let asked = has_line(sets, numbers, kind, c);
+        set = with_if(set, c, asked);
+    }
+    set
 }

@@ -216,3 +216,18 @@ module _ (t : Table) (n : ℕ) (test : Set) where
   unfolding byName elem
   first-passes h =
       rising-elem n _ test .0 (sym (sorted-elem t _ (rising n test)) ∙ ap (elem _) (first-then h) ∙ or-l _ _ (==-same _)) .1
+
+-- the next of some numbers is k
+pub next-is : (t : Table) (n k : ℕ) (s s′ : Set) → k ≡ firstByName t n s → k < n → s′ ≡ without s k
+    → byName t n s ≡ k ∷ byName t n s′
+next-is t n k s s′ e h d =
+    first-then t n s (subst (λ (m : ℕ). m < n) e h) ∙ ap (λ (m : ℕ). m ∷ byName t n (without s m)) (sym e)
+    ∙ ap (λ (r : Set). k ∷ byName t n r) (sym d)
+
+pub listed-below : (t : Table) (n : ℕ) (s : Set) (x : ℕ) → elem x (byName t n s) ≡ true → x < n
+unfolding byName rising
+listed-below t n s x e = let z = sorted-below t n 0 s x e in omega (arith, z .1)
+
+pub fewer : (t : Table) (n k : ℕ) (s s′ : Set) → k ≡ firstByName t n s → k < n → s′ ≡ without s k
+    → length (byName t n s′) < length (byName t n s)
+fewer t n k s s′ e h d = let q = ap length (next-is t n k s s′ e h d) in omega arith

@@ -11,5 +11,7 @@ pub mod ListedLaws
 pub mod PieceLaws
 pub mod LineLaws
 pub mod ComponentLaws
+pub mod SystemLaws
+pub mod TextLaws
 pub mod Written
 pub mod WrittenLaws

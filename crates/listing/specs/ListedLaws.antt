@@ -12,7 +12,7 @@ use Rattle.text.specs.Bytes.{Text}
 use Rattle.text.specs.Tables.{Table}
 use Rattle.text.specs.Written.{byName, parted}
 use Rattle.listing.specs.ByName.{firstByName, firstOr, listed}
-use Rattle.listing.specs.ByNameLaws.{first-none, first-passes, first-then, head-below}
+use Rattle.listing.specs.ByNameLaws.{fewer, first-none, first-passes, head-below, next-is}
 use Rattle.listing.specs.Room.{Puts}
 use Rattle.listing.specs.RoomLaws.{Partly, partly-as, partly-end, partly-keeps, partly-more, partly-start}
 use Rattle.listing.specs.declared.Room.{Room}
@@ -44,13 +44,11 @@ module _ {p : Text} {f : ℕ → Text} {t : Table} {n : ℕ} where
 
       module _ {s′ : Set} (d : s′ ≡ without s k) where
         goes-on : byName t n s ≡ k ∷ byName t n s′
-        goes-on =
-            first-then t n s (subst (λ (m : ℕ). m < n) (g .first) h)
-            ∙ ap (λ (m : ℕ). m ∷ byName t n (without s m)) (sym (g .first)) ∙ ap (λ (r : Set). k ∷ byName t n r) (sym d)
+        goes-on = next-is t n k s s′ (g .first) h d
 
         -- there are fewer then
         pub listing-less : length (byName t n s′) < length (byName t n s)
-        listing-less = let q = ap length goes-on in omega arith
+        listing-less = fewer t n k s s′ (g .first) h d
 
         module _ {k′ : ℕ} (e′ : k′ ≡ firstByName t n s′) {b : Bool} (m : b ≡ (k′ <? n)) where
           no-more : byName t n s′ ≡ [] → b ≡ false

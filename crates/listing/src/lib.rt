@@ -9,13 +9,13 @@ ghost use Rattle.sets.specs.Tests.{_&_, _≤?_, if_then_else_};
 ghost use Rattle.text.specs.Bytes.{bytes};
 ghost use Rattle.text.specs.Session.{decimal, row};
 ghost use Rattle.text.specs.Tables.{nameAt};
-ghost use Rattle.text.specs.Written.{before, line, specOf, modOf, sysOf};
+ghost use Rattle.text.specs.Written.{before, line, specOf, modOf, sysOf, written};
 ghost use Rattle.names.specs.Stored.{tableOf, tablesOf};
 ghost use Rattle.listing.specs.Room.{Puts};
 ghost use Rattle.listing.specs.ByName.{firstWith, firstByName, listed};
 ghost use Rattle.listing.specs.Pieces.{namesOf, requiredText, specVersion, modVersion, memberText, sysVersion, versionOf};
-ghost use Rattle.listing.specs.Lines.{ifAsked, versionsIn, endingOf, lineOf, hasLine, withIf};
-ghost use Rattle.model.specs.Book.{hasVersion, isMember};
+ghost use Rattle.listing.specs.Lines.{ifAsked, versionsIn, endingOf, lineOf, hasLine, withIf, isNext, nextSystem, systemLines};
+ghost use Rattle.model.specs.Book.{hasVersion, isMember, isSystem};
 ghost use Rattle.book.specs.Plain.{plainOf, specsOf, systemsOf};
 ghost use Rattle.listing.specs.Written.{wrote, startingWith, pairOf};
 
@@ -816,4 +816,129 @@ fn components_of<'a>(sets: &'a [u64; 576], numbers: &'a [u8; 8768], kind: Kind) 
         set = with_if(set, c, asked);
     }
     set
+}
+
+// ---- the order of systems
+
+// Whether s is not out, and its usable systems are all out.
+fn is_next<'a>(
+    sets: &'a [u64; 576],
+    numbers: &'a [u8; 8768],
+    systems: u64,
+    done: u64,
+    s: usize,
+) -> bool
+    requires { ⌜ s < 32 ⌝ }
+    requires { ⌜ bit systems ≡ below 32 (isSystem (systemsOf (now sets) (now numbers))) ⌝ }
+    ensures { λ r. ⌜ r ≡ isNext (systemsOf (now (sets .entry)) (now (numbers .entry))) (bit done) s ⌝ }
+{
+    let left = sets::minus(book::usable(sets, numbers, s), done);
+    !sets::member(done, s) & sets::disjoint(left, systems)
+}
+
+// "The next system is always the lowest name whose usable systems are all out": 32 where there is none.
+fn next_system<'a>(
+    sets: &'a [u64; 576],
+    numbers: &'a [u8; 8768],
+    comps: &'a [u8; 1056],
+    systems: u64,
+    done: u64,
+) -> usize
+    requires { ⌜ bit systems ≡ below 32 (isSystem (systemsOf (now sets) (now numbers))) ⌝ }
+    ensures { λ r. ⌜ r ≡ nextSystem (systemsOf (now (sets .entry)) (now (numbers .entry))) (tableOf 32 (now (comps .entry))) (bit systems) (bit done) ⌝ }
+{
+    let mut rest = systems;
+    let mut k = first_by_name(comps, 32, rest);
+    while k < 32 {
+        if is_next(sets, numbers, systems, done, k) {
+            return k;
+        }
+        rest = sets::without(rest, k);
+        k = first_by_name(comps, 32, rest);
+    }
+    32
+}
+
+// The lines of the systems, which are the set.
+fn put_systems<'a>(
+    out: &mut [u8],
+    room: Room,
+    sets: &'a [u64; 576],
+    numbers: &'a [u8; 8768],
+    comps: &'a [u8; 1056],
+    vers: &'a [u8; 2112],
+    facs: &'a [u8; 2112],
+    impls: &'a [u8; 8448],
+    systems: u64,
+) -> Room
+    requires { ⌜ bit systems ≡ below 32 (isSystem (systemsOf (now sets) (now numbers))) ⌝ }
+    ensures { λ r. ⌜ Puts (systemLines (plainOf (now (sets .entry)) (now (numbers .entry))) (tablesOf (now (comps .entry)) (now (vers .entry)) (now (facs .entry)) (now (impls .entry)))) room r (now (out .entry)) (now (out .exit)) ⌝ }
+{
+    let mut after = room;
+    let mut done: u64 = 0;
+    for i in 0usize..32 {
+        let k = next_system(sets, numbers, comps, systems, done);
+        if 32 <= k {
+            return after;
+        }
+        after = put_line(
+            out,
+            after,
+            sets,
+            numbers,
+            comps,
+            vers,
+            facs,
+            impls,
+            Kind::System,
+            k,
+        );
+        done = sets::with(done, k);
+    }
+    after
+}
+
+// ---- the text of a book
+
+// "specs, modules, systems, each by rising bytes of the name"
+pub fn put_text<'a>(
+    out: &mut [u8],
+    room: Room,
+    sets: &'a [u64; 576],
+    numbers: &'a [u8; 8768],
+    comps: &'a [u8; 1056],
+    vers: &'a [u8; 2112],
+    facs: &'a [u8; 2112],
+    impls: &'a [u8; 8448],
+) -> Room
+    ensures { λ r. ⌜ Puts (written (plainOf (now (sets .entry)) (now (numbers .entry))) (tablesOf (now (comps .entry)) (now (vers .entry)) (now (facs .entry)) (now (impls .entry)))) room r (now (out .entry)) (now (out .exit)) ⌝ }
+{
+    let specs = components_of(sets, numbers, Kind::Spec);
+    let modules = components_of(sets, numbers, Kind::Module);
+    let systems = components_of(sets, numbers, Kind::System);
+    let a = put_lines(
+        out,
+        room,
+        sets,
+        numbers,
+        comps,
+        vers,
+        facs,
+        impls,
+        Kind::Spec,
+        specs,
+    );
+    let b = put_lines(
+        out,
+        a,
+        sets,
+        numbers,
+        comps,
+        vers,
+        facs,
+        impls,
+        Kind::Module,
+        modules,
+    );
+    put_systems(out, b, sets, numbers, comps, vers, facs, impls, systems)
 }

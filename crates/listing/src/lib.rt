@@ -942,3 +942,35 @@ pub fn put_text<'a>(
     );
     put_systems(out, b, sets, numbers, comps, vers, facs, impls, systems)
 }
+
+// The text of a book with its tables at the start of a lent slice; nothing of it where it does not fit.
+pub fn text<'a>(
+    out: &mut [u8],
+    sets: &'a [u64; 576],
+    numbers: &'a [u8; 8768],
+    comps: &'a [u8; 1056],
+    vers: &'a [u8; 2112],
+    facs: &'a [u8; 2112],
+    impls: &'a [u8; 8448],
+) -> Wrote
+    ensures { λ r. ⌜ r ≡ wrote (written (plainOf (now (sets .entry)) (now (numbers .entry))) (tablesOf (now (comps .entry)) (now (vers .entry)) (now (facs .entry)) (now (impls .entry)))) (now (out .entry)) ⌝ }
+    ensures { λ r. ⌜ now (out .exit) ≡ startingWith (written (plainOf (now (sets .entry)) (now (numbers .entry))) (tablesOf (now (comps .entry)) (now (vers .entry)) (now (facs .entry)) (now (impls .entry)))) (now (out .entry)) ⌝ }
+{
+    let room = Room {
+        fits: true,
+        left: out.len(),
+    };
+    let mut nothing = [0; 0];
+    let measured = put_text(&mut nothing, room, sets, numbers, comps, vers, facs, impls);
+    if !measured.fits {
+        return Wrote {
+            fits: false,
+            len: 0,
+        };
+    }
+    put_text(out, room, sets, numbers, comps, vers, facs, impls);
+    Wrote {
+        fits: true,
+        len: room.left - measured.left,
+    }
+}

@@ -59,7 +59,8 @@ pub fn mixed() -> Book {
 
 /// The book in which every composition that holds the pair holds the other version instead.
 pub fn with_instead(mut book: Book, (component, version): Pair, other: Number) -> Book {
-    for composition in book.systems.values_mut().flat_map(|system| system.compositions.values_mut()) {
+    let systems = book.systems.values_mut();
+    for composition in systems.flat_map(|system| system.compositions.values_mut()) {
         if composition.get(&component) == Some(&version) {
             composition.insert(component, other);
         }

@@ -81,8 +81,7 @@ pub fn full() -> Vec<Case> {
     };
     let module_version =
         Call::AddModvar { component: 0, version: 7, requires: 0b1110, implementation: 7 };
-    let system_version =
-        Call::AddSysvar { component: 31, version: 7, composition: composition(7) };
+    let system_version = Call::AddSysvar { component: 31, version: 7, composition: composition(7) };
     vec![
         after(&book, &[Call::DelSpec(31)], specification),
         after(&book, &[Call::DelMod(0)], module),

@@ -23,8 +23,9 @@ fn test_line(name: &str, book: &Book) {
     let raw = Raw::of(book);
     let answers = (host::test(&raw), book.is_sound());
     assert_eq!(answers, (true, true), "{name}: both programs call it a book");
-    let [ours, theirs] =
-        beside([&mut || host::test(black_box(&raw)), &mut || black_box(book).is_sound()]);
+    let mut proved = || host::test(black_box(&raw));
+    let mut plain = || black_box(book).is_sound();
+    let [ours, theirs] = beside([&mut proved, &mut plain]);
     let used = stack::used_by(|| host::test(&raw));
     println!("| {name} | {ours:.0} | {theirs:.0} | {:.2} | {used} |", theirs / ours);
 }
@@ -43,15 +44,16 @@ fn call_line(case: &Case) {
     let answers = (carried.perform(&raw, &mut next), accepted_on_a_copy(case));
     assert_eq!(answers, (0, true), "{word}: both programs accept it");
     assert!(host::test(&next), "{word}: it hands a book back");
-    let used = stack::used_by(|| carried.perform(&raw, &mut Raw::empty()) == 0);
-    let [ours, theirs, copy] = beside([
-        &mut || carried.perform(black_box(&raw), &mut next) == 0,
-        &mut || accepted_on_a_copy(case),
-        &mut || black_box(black_box(&case.book).clone()).specifications.is_empty(),
-    ]);
-    let (us, them, less) = (ours / 1000.0, theirs / 1000.0, (theirs - copy) / 1000.0);
-    let (ratio, ratio_less) = (them / us, less / us);
-    println!("| {word} | {us:.2} | {them:.2} | {ratio:.2} | {less:.2} | {ratio_less:.2} | {used} |");
+    let used = stack::used_by(|| carried.perform(&raw, &mut next) == 0);
+    let mut proved = || carried.perform(black_box(&raw), &mut next) == 0;
+    let mut plain = || accepted_on_a_copy(case);
+    let mut copied = || black_box(black_box(&case.book).clone()).systems.is_empty();
+    let [ours, theirs, copy] = beside([&mut proved, &mut plain, &mut copied]);
+    let (us, them, ratio) = (ours / 1000.0, theirs / 1000.0, theirs / ours);
+    let (less, ratio_less) = ((theirs - copy) / 1000.0, (theirs - copy) / ours);
+    println!(
+        "| {word} | {us:.2} | {them:.2} | {ratio:.2} | {less:.2} | {ratio_less:.2} | {used} |"
+    );
 }
 
 fn call_table(name: &str, cases: &[Case]) {
@@ -77,11 +79,10 @@ fn parts_line(name: &str, book: &Book, pair: Pair) {
     let rows: Vec<u16> = list.rows.iter().map(row).collect();
     assert_eq!((listed.answer, &out[..listed.rows]), (0, &rows[..]), "{name}: the same list");
     assert!(list.depth <= listed.depth, "{name}: the depth is enough");
-    let used = stack::used_by(|| host::parts(&raw, pair, &mut [0; MOST_ROWS]).answer == 0);
-    let [ours, theirs] = beside([
-        &mut || host::parts(black_box(&raw), pair, &mut out).answer == 0,
-        &mut || black_box(black_box(book).parts(pair.0, pair.1, MOST_ROWS)).is_ok(),
-    ]);
+    let used = stack::used_by(|| host::parts(&raw, pair, &mut out).answer == 0);
+    let mut proved = || host::parts(black_box(&raw), pair, &mut out).answer == 0;
+    let mut plain = || black_box(black_box(book).parts(pair.0, pair.1, MOST_ROWS)).is_ok();
+    let [ours, theirs] = beside([&mut proved, &mut plain]);
     let (us, them, ratio) = (ours / 1000.0, theirs / 1000.0, theirs / ours);
     println!("| {name} | {} | {us:.2} | {them:.2} | {ratio:.2} | {used} |", rows.len());
 }

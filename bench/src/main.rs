@@ -12,6 +12,7 @@ use books::VERSIONS;
 use cases::Case;
 use host::Carried;
 use plain::book::{Book, Pair};
+use plain::calls::Call;
 use raw::Raw;
 use std::hint::black_box;
 use timing::beside;
@@ -68,6 +69,16 @@ fn call_table(name: &str, cases: &[Case]) {
     cases.iter().for_each(call_line);
 }
 
+/// A call on the empty Book that is refused: it tests and asks next to nothing, so what is timed is the copying.
+fn refused_line() {
+    let (raw, mut next, carried) = (Raw::empty(), Raw::empty(), Carried::of(&Call::DelMod(0)));
+    let mut refused = || carried.perform(black_box(&raw), &mut next) == 6;
+    assert!(refused(), "the empty Book holds no module");
+    let [time] = beside([&mut refused]);
+    println!();
+    println!("DEL-MOD refused on the empty Book: {:.2} µs", time / 1000.0);
+}
+
 fn row((component, version): &Pair) -> u16 {
     u16::try_from(component * 64 + version).expect("a row is below 2048")
 }
@@ -98,6 +109,7 @@ fn main() {
     test_line("full", &books::layered(&VERSIONS));
     call_table("teaching", &cases::teaching());
     call_table("full", &cases::full());
+    refused_line();
     println!();
     println!("| parts list | rows | proved, µs | std, µs | std / proved | stack, bytes |");
     println!("| --- | ---: | ---: | ---: | ---: | ---: |");

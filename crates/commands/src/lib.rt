@@ -18,11 +18,11 @@ ghost use Rattle.commands.specs.Outcome.{Called};
 ghost use Rattle.commands.specs.Calls.{commandOf, addSpec, addMod, addSys, addModvar, addSysvar};
 ghost use Rattle.commands.specs.Asked.{notUsableIn, notHeldAt, notHeldIn};
 use book::Book;
+use requests::Sets;
+use requests::Numbers;
+use requests::Usable;
 use requests::Composition;
 use requests::Compositions;
-use requests::Numbers;
-use requests::Sets;
-use requests::Usable;
 
 // What a command gives back: its answer, 0 where it is accepted, and the Book.
 pub struct Outcome {
@@ -388,13 +388,7 @@ pub fn add_spec<'a>(
             book: b,
         };
     }
-    add_spec_in(
-        b,
-        c,
-        provided,
-        requests::sets_of(versions, required),
-        standard,
-    )
+    add_spec_in(b, c, provided, requests::sets_of(versions, required), standard)
 }
 
 // ADD-MOD, on any Book: versions, and for each its implementation.

@@ -11,10 +11,10 @@ ghost use Rattle.book.specs.Plain.{plainOf, facilitySet};
 ghost use Rattle.requests.specs.Views.{setsView, numbersView, compositionView, compositionsView, usableView};
 ghost use Rattle.requests.specs.Answers.{specAnswer, modAnswer, modvarAnswer};
 ghost use Rattle.questions.specs.Asked.{freeAt, sysAsked, sysvarAsked};
+use requests::Sets;
+use requests::Numbers;
 use requests::Composition;
 use requests::Compositions;
-use requests::Numbers;
-use requests::Sets;
 use requests::Usable;
 
 // ---- ADD-SPEC

@@ -94,7 +94,7 @@ beside-each t [] o h = refl
 beside-each t (x ∷ xs) o h =
     and-in _ _ (h (x .0) (x .1) (if-true _ _ _ (==-same (x .0))))
     (beside-each t xs (and-r _ _ o) (λ v a e. h v a (if-false _ _ _ (==-not _ _ (λ q.
-    clash (sym (ap (λ (k : ℕ). elem k (firsts xs)) q) ∙ sym (beside-elem xs v) ∙ isSome-in _ e) (not-out _ (and-l _ _ o)))) ∙ e)))
+        clash (sym (ap (λ (k : ℕ). elem k (firsts xs)) q) ∙ sym (beside-elem xs v) ∙ isSome-in _ e) (not-out _ (and-l _ _ o)))) ∙ e)))
 
 each-beside : {A : Type 0} (n : ℕ) (t : A → Bool) (xs : List (ℕ × A)) → eachBelow n (firsts xs) ≡ true → once (firsts xs) ≡ true
     → every t (seconds xs) ≡ all n (λ v. if-there (beside xs v) t)

@@ -137,9 +137,9 @@ module _ (k : Composition) (ms : Members) (e : compositionView k ≡ membersOf m
     unfolding _==_
     empty-is h = iff→≡ _ _
         (λ t. not-in _ (fails _ (λ s. (let z = nonEmpty-some ms s in
-        clash (member-is (z .0) ∙ z .1) (ap (λ (x : ℕ). bit x (z .0)) (==-out (k .members) 0 t) ∙ bit-zero (z .0))))))
+            clash (member-is (z .0) ∙ z .1) (ap (λ (x : ℕ). bit x (z .0)) (==-out (k .members) 0 t) ∙ bit-zero (z .0))))))
         (λ t. ==-in (k .members) 0 (bit-ext 64 (k .members) 0 h (pow-pos 64) (λ f l.
-        fails _ (λ b. clash (some-nonEmpty ms f (sym (member-is f) ∙ b)) (not-out _ t)) ∙ sym (bit-zero f))))
+            fails _ (λ b. clash (some-nonEmpty ms f (sym (member-is f) ∙ b)) (not-out _ t)) ∙ sym (bit-zero f))))
 
 -- ---- a composition put in
 
@@ -178,12 +178,7 @@ module _ (g : Compositions) (v : ℕ) (k : Composition) where
   good t ms e = not-no _ (sym (large-is k ms e) ∙ t)
 
   pub composed-old : {r : Bool} → v < 64 → k .large ≡ false → k .members < 2 ^ 64 → r ≡ bit (g .listed) v → r ≡ true → CompositionGoes (record {
-    large = g .large;
-    empty = g .empty || eqb (k .members) 0;
-    twice = true;
-    listed = g .listed;
-    members = g .members;
-    rows = g .rows;
+    large = g .large; empty = g .empty || eqb (k .members) 0; twice = true; listed = g .listed; members = g .members; rows = g .rows;
   })
   unfolding compositionsView compositionsStep
   composed-old h t b m y ms e =
@@ -224,12 +219,7 @@ module _ (g : Compositions) (v : ℕ) (k : Composition) where
 
     pub composed-new : {r : Bool} (w : ℕ) → k .large ≡ false → k .members < 2 ^ 64 → r ≡ bit (g .listed) v → r ≡ false → bit w ≡ with (bit (g .listed)) v
         → CompositionGoes (record {
-          large = g .large;
-          empty = g .empty || eqb (k .members) 0;
-          twice = g .twice || k .twice;
-          listed = w;
-          members = set (g .members) v (k .members);
-          rows = rows;
+          large = g .large; empty = g .empty || eqb (k .members) 0; twice = g .twice || k .twice; listed = w; members = set (g .members) v (k .members); rows = rows;
         })
     unfolding compositionsView compositionsStep
     composed-new w t b m y bits ms e =

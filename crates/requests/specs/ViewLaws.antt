@@ -232,7 +232,6 @@ module _ (g : Numbers) (v i : ℕ) where
   number-new w x h k len m y bits e =
       plain-new versions _ itself (g .large) (g .twice) (g .listed) (byteAt (g .at)) v i w (byteAt (set (g .at) v x)) h (is-below k) (sym m ∙ y) bits
       (ap byte (getD-set-same (g .at) v x 0 (omega arith)) ∙ ap byte e ∙ byte-same i k ∙ sym (itself-is i)) (λ j n. ap byte (getD-set-other (g .at) v j x 0 n))
-
 pub no-numbers-is : numbersView (record { large = false; twice = false; listed = 0; at = replicate 64 0 }) ≡ nothing
 unfolding numbersView
 no-numbers-is = held-nothing _
@@ -279,7 +278,6 @@ module _ (g : Composition) (m : ℕ) where
       plain-new components _ itself (g .large) (g .twice) (g .members) (markAt (g .versions)) m (markSaid x) w (markAt (set (g .versions) m z)) h
       (mark-good x) (sym e ∙ y) bits
       (ap markSaid (getD-set-same (g .versions) m z 0 (omega arith) ∙ q) ∙ sym (itself-is _)) (λ i n. ap markSaid (getD-set-other (g .versions) m i z 0 n))
-
   abbrev large-is : Composition
   large-is = record { large = true; twice = g .twice; members = g .members; versions = g .versions }
 

@@ -329,12 +329,7 @@ fn apart(g: Compositions) -> Compositions
 }
 
 // The composition that stands from a up to e.
-fn composition_at<'a>(
-    members: &'a [usize],
-    versions: &'a [usize],
-    a: usize,
-    e: usize,
-) -> Composition
+fn composition_at<'a>(members: &'a [usize], versions: &'a [usize], a: usize, e: usize) -> Composition
     requires { ⌜ (a ≤ e) × (e ≤ length (now members)) × (e ≤ length (now versions)) ⌝ }
     ensures { λ r. ⌜ compositionView r ≡ membersOf (membersSaid (take (e - a) (drop a (now (members .entry)))) (take (e - a) (drop a (now (versions .entry))))) ⌝ }
 {

@@ -6,7 +6,7 @@ use Rattle.demand.proofs.call.Tie as tie
 
 returns : tie.Need-returns
 unfolding commandOf
-returns c = called-as _ _ (is-0 _ _ _ _ _ _ _ _ _ _ _ (c .before .if1 .taken)) (c .add-spec .ensures)
+returns c = called-as _ _ (is-0 _ _ _ _ _ _ _ _ _ _ _  (c .before .if1 .taken)) (c .add-spec .ensures)
 
 returns-2 : tie.Need-returns-2
 unfolding commandOf

@@ -25,11 +25,8 @@ returns-3 : tie.Need-returns-3 Inv-loop μ-loop
 returns-3 c = few-versions (now (c .before .before .before .before .before .before .before .before .before .before .before .before .args .versions)) (now (c .before .before .before .before .before .before .before .before .before .before .before .before .args .lengths)) (now (c .before .before .before .before .before .before .before .before .before .before .before .before .args .members)) (now (c .before .before .before .before .before .before .before .before .before .before .before .before .args .chosen)) (c .before .before .before .before .before .before .loop .i) (c .before .before .before .before .before .before .loop .a) _ (c .before .before .before .before .before .before .loop .inv .2) (c .before .before .before .before .before .loop-test .taken) (c .before .before .before .before .if1 .left) _ (c .before .if3 .taken) (c .apart3 .ensures)
 
 loop-again : tie.Need-loop-again Inv-loop μ-loop
-loop-again c = (
-  omega (arith, c .before .before .before .before .before .before .before .before .loop .inv .0, c .before .before .before .before .if2 .left),
-  omega (arith, c .before .before .before .before .before .before .before .before .loop .inv .1, c .before .before .before .if3 .left),
-  compositions-turn (now (c .before .before .before .before .before .before .before .before .before .before .before .before .before .before .args .versions)) (now (c .before .before .before .before .before .before .before .before .before .before .before .before .before .before .args .lengths)) (now (c .before .before .before .before .before .before .before .before .before .before .before .before .before .before .args .members)) (now (c .before .before .before .before .before .before .before .before .before .before .before .before .before .before .args .chosen)) (c .before .before .before .before .before .before .before .before .loop .i) (c .before .before .before .before .before .before .before .before .loop .a) _ (c .before .before .before .before .before .before .before .before .loop .inv .2) (c .before .before .before .before .before .before .before .loop-test .taken) (c .before .before .before .before .before .before .if1 .left) _ _ _ refl (c .before .before .before .before .if2 .left) (c .before .before .before .if3 .left) refl (c .with-composition .ensures _ (c .before .before .composition-at .ensures)),
-)
+loop-again c = (omega (arith, c .before .before .before .before .before .before .before .before .loop .inv .0, c .before .before .before .before .if2 .left), omega (arith, c .before .before .before .before .before .before .before .before .loop .inv .1, c .before .before .before .if3 .left),
+    compositions-turn (now (c .before .before .before .before .before .before .before .before .before .before .before .before .before .before .args .versions)) (now (c .before .before .before .before .before .before .before .before .before .before .before .before .before .before .args .lengths)) (now (c .before .before .before .before .before .before .before .before .before .before .before .before .before .before .args .members)) (now (c .before .before .before .before .before .before .before .before .before .before .before .before .before .before .args .chosen)) (c .before .before .before .before .before .before .before .before .loop .i) (c .before .before .before .before .before .before .before .before .loop .a) _ (c .before .before .before .before .before .before .before .before .loop .inv .2) (c .before .before .before .before .before .before .before .loop-test .taken) (c .before .before .before .before .before .before .if1 .left) _ _ _ refl (c .before .before .before .before .if2 .left) (c .before .before .before .if3 .left) refl (c .with-composition .ensures _ (c .before .before .composition-at .ensures)))
 
 returns-4 : tie.Need-returns-4 Inv-loop μ-loop
 returns-4 c = lengths-left (now (c .before .before .before .before .before .before .before .before .before .args .versions)) (now (c .before .before .before .before .before .before .before .before .before .args .lengths)) (now (c .before .before .before .before .before .before .before .before .before .args .members)) (now (c .before .before .before .before .before .before .before .before .before .args .chosen)) (c .before .before .before .loop .i) (c .before .before .before .loop .a) _ (c .before .before .before .loop .inv .2) (c .before .before .loop-test .left) _ (c .before .if4 .taken) (c .apart4 .ensures)

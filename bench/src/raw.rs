@@ -34,9 +34,14 @@ fn members(numbers: impl Iterator<Item = Number>) -> u64 {
 }
 
 impl Raw {
+    /// The empty Book.
+    pub fn empty() -> Raw {
+        Raw { sets: [0; 576], numbers: [0; 8768] }
+    }
+
     /// The Book that holds the plain book.
     pub fn of(book: &Book) -> Raw {
-        let mut raw = Raw { sets: [0; 576], numbers: [0; 8768] };
+        let mut raw = Raw::empty();
         for (component, specification) in &book.specifications {
             let c = *component as usize;
             raw.sets[c] = bits(&specification.provides);

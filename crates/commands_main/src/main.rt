@@ -358,8 +358,10 @@ fn mod_numbers(k: Book) -> Book {
     let b = add_mod(b"component 32", k, 32, &[ONE], &[0]);
     let b = add_mod(b"component 2^64 - 1", b, LAST, &[ONE], &[0]);
     let b = add_mod(b"a version 64", b, PROBE, &[ONE, 64], &[0, 0]);
+    let b = add_mod(b"a version 65535", b, PROBE, &[LEFT_OUT], &[0]);
     let b = add_mod(b"a version 2^64 - 1", b, PROBE, &[LAST], &[0]);
     let b = add_mod(b"implementation 256", b, PROBE, &[ONE], &[256]);
+    let b = add_mod(b"implementation 65535", b, PROBE, &[ONE], &[LEFT_OUT]);
     let b = add_mod(b"implementation 2^64 - 1", b, PROBE, &[ONE], &[LAST]);
     let b = add_mod(
         b"more versions than implementations",
@@ -415,10 +417,13 @@ fn sys_numbers(k: Book) -> Book {
     let b = sys_of_loop(b"component 32", k, 32, S);
     let b = sys_of_loop(b"component 2^64 - 1", b, LAST, S);
     let b = sys_of_loop(b"a version 64", b, SHELL, 64);
+    let b = sys_of_loop(b"a version 65535", b, SHELL, LEFT_OUT);
     let b = sys_of_loop(b"a version 2^64 - 1", b, SHELL, LAST);
     let b = shell_of(b"usable 32", b, &[LOOP, 32], LOOP);
+    let b = shell_of(b"usable 65535", b, &[LOOP, LEFT_OUT], LOOP);
     let b = shell_of(b"usable 2^64 - 1", b, &[LAST, LOOP], LOOP);
     let b = shell_of(b"member 32", b, &[LOOP], 32);
+    let b = shell_of(b"member 65535", b, &[LOOP], LEFT_OUT);
     let b = shell_of(b"member 2^64 - 1", b, &[LOOP], LAST);
     let b = shell_of_loop(b"member's version 64", b, 64);
     let b = shell_of_loop(b"member's version 65534", b, 65534);
@@ -609,8 +614,10 @@ fn sysvar_numbers(k: Book) -> Book {
     let b = add_sysvar(b"component 32", k, 32, B, &[LOOP], &one);
     let b = add_sysvar(b"component 2^64 - 1", b, LAST, B, &[LOOP], &one);
     let b = add_sysvar(b"version 64", b, TANK, 64, &[LOOP], &one);
+    let b = add_sysvar(b"version 65535", b, TANK, LEFT_OUT, &[LOOP], &one);
     let b = add_sysvar(b"version 2^64 - 1", b, TANK, LAST, &[LOOP], &one);
     let b = add_sysvar(b"member 32", b, TANK, B, &[32], &one);
+    let b = add_sysvar(b"member 65535", b, TANK, B, &[LEFT_OUT], &one);
     let b = add_sysvar(b"member 2^64 - 1", b, TANK, B, &[LAST], &one);
     let b = tank_with(b"member's version 64", b, B, 64);
     let b = tank_with(b"member's version 65534", b, B, 65534);
@@ -736,6 +743,7 @@ fn modvar_taken(k: Book) {
     let b = del_modvar(b"component 32", k, 32, ONE);
     let b = del_modvar(b"component 2^64 - 1", b, LAST, ONE);
     let b = del_modvar(b"version 64", b, PROBE, 64);
+    let b = del_modvar(b"version 65535", b, PROBE, LEFT_OUT);
     let b = del_modvar(b"version 2^64 - 1", b, PROBE, LAST);
     let b = del_modvar(b"valve, not defined", b, VALVE, V2);
     let b = del_modvar(b"valve in a version that it has not", b, VALVE, B);
@@ -757,6 +765,7 @@ fn sysvar_taken(k: Book) {
     let b = del_sysvar(b"component 32", k, 32, A);
     let b = del_sysvar(b"component 2^64 - 1", b, LAST, A);
     let b = del_sysvar(b"version 64", b, TANK, 64);
+    let b = del_sysvar(b"version 65535", b, TANK, LEFT_OUT);
     let b = del_sysvar(b"version 2^64 - 1", b, TANK, LAST);
     let b = del_sysvar(b"probe, not defined", b, PROBE, ONE);
     let b = del_sysvar(b"probe in a version that it has not", b, PROBE, B);
@@ -803,6 +812,49 @@ fn errors(k: Book) {
     let text = b"room of loop, shell usable";
     let b = add_sys(text, b, ROOM, &[SHELL, LOOP], &[Q], &[1], &[LOOP], &one);
     shell_of(b"shell of loop, room usable", b, &[ROOM, LOOP], LOOP);
+}
+
+// ---- other cases
+
+// An empty usable list is refused by B5 where nothing is provided.
+fn nothing_usable(k: Book) {
+    heading(b"other cases");
+    let b = add_spec(b"spare provides nothing", k, SPARE, 0, &[ONE], &[0], ONE);
+    let text = b"spare of loop, nothing usable";
+    add_sys(text, b, SPARE, &[], &[ONE], &[1], &[LOOP], &[LEFT_OUT]);
+}
+
+// Shell reaches itself through room, and nothing usable provides hold.
+fn before_b4(k: Book) {
+    let b = holds(b"shell", k, SHELL, S);
+    let b = add_spec(b"room provides temp", b, ROOM, TEMP, &[Q], &[0], Q);
+    let text = b"room of probe, shell usable";
+    let one = [LEFT_OUT];
+    let b = add_sys(text, b, ROOM, &[PROBE, SHELL], &[Q], &[1], &[PROBE], &one);
+    let text = b"B3 before B4, shell of probe, room usable";
+    shell_of(text, b, &[ROOM, PROBE], PROBE);
+}
+
+// Shell provides temp and cool and needs temp; room provides light and has shell for that need alone.
+fn own_needs(k: Book) {
+    let text = b"shell provides temp and cool";
+    let b = add_spec(text, k, SHELL, TEMP | COOL, &[S], &[0], S);
+    let text = b"shell of probe and valve";
+    let b = shell_of_two(text, b, &[PROBE, VALVE], PROBE, VALVE);
+    let b = add_spec(b"spare provides light", b, SPARE, LIGHT, &[ONE], &[0], ONE);
+    let b = add_spec(b"room provides light", b, ROOM, LIGHT, &[Q], &[0], Q);
+    let text = b"B7, shell provides what it needs";
+    let used = [SPARE, SHELL];
+    add_sys(
+        text,
+        b,
+        ROOM,
+        &used,
+        &[Q],
+        &[2],
+        &used,
+        &[LEFT_OUT, LEFT_OUT],
+    );
 }
 
 // ---- Books that are none
@@ -888,5 +940,8 @@ fn main() {
     sysvar_taken(k);
     table(k);
     errors(k);
+    nothing_usable(k);
+    before_b4(k);
+    own_needs(k);
     damaged(k);
 }

@@ -356,8 +356,8 @@ pub fn add_sysvar_in(b: Book, c: usize, v: usize, g: Composition) -> Outcome
             book: b,
         };
     }
-    let then = candidates::sysvar_candidate(b, c, v, g);
-    if !rules::b5_to_b9(&then.sets, &then.numbers) {
+    let after = candidates::sysvar_candidate(b, c, v, g);
+    if !rules::b5_to_b9(&after.sets, &after.numbers) {
         return Outcome {
             answer: 21,
             book: b,
@@ -365,7 +365,7 @@ pub fn add_sysvar_in(b: Book, c: usize, v: usize, g: Composition) -> Outcome
     }
     Outcome {
         answer: 0,
-        book: then,
+        book: after,
     }
 }
 

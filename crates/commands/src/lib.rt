@@ -208,32 +208,32 @@ pub fn del_modvar_in(b: Book, c: usize, v: usize) -> Outcome
 }
 
 // DEL-SYSVAR.
-pub fn del_sysvar_in(b: Book, c: usize, v: usize) -> Outcome
+pub fn del_sysvar_in(b: Book, s: usize, v: usize) -> Outcome
     requires { ⌜ test.passes (b .sets) (b .numbers) ≡ true ⌝ }
-    ensures { λ r. ⌜ Called (b .sets) (b .numbers) (DEL-SYSVAR c v) (r .answer) (r .book .sets) (r .book .numbers) ⌝ }
+    ensures { λ r. ⌜ Called (b .sets) (b .numbers) (DEL-SYSVAR s v) (r .answer) (r .book .sets) (r .book .numbers) ⌝ }
 {
-    if 32 <= c {
+    if 32 <= s {
         return Outcome { answer: 1, book: b };
     }
     if 64 <= v {
         return Outcome { answer: 1, book: b };
     }
-    if !book::is_system(&b.sets, &b.numbers, c) {
+    if !book::is_system(&b.sets, &b.numbers, s) {
         return Outcome { answer: 7, book: b };
     }
-    if !book::has_version(&b.sets, &b.numbers, c, v) {
+    if !book::has_version(&b.sets, &b.numbers, s, v) {
         return Outcome {
             answer: 10,
             book: b,
         };
     }
-    if book::standard(&b.sets, &b.numbers, c) == v {
+    if book::standard(&b.sets, &b.numbers, s) == v {
         return Outcome {
             answer: 15,
             book: b,
         };
     }
-    if !held_by_none(&b.sets, &b.numbers, c, v) {
+    if !held_by_none(&b.sets, &b.numbers, s, v) {
         return Outcome {
             answer: 18,
             book: b,
@@ -241,7 +241,7 @@ pub fn del_sysvar_in(b: Book, c: usize, v: usize) -> Outcome
     }
     Outcome {
         answer: 0,
-        book: book::take_sysvar(b, c, v),
+        book: book::take_sysvar(b, s, v),
     }
 }
 

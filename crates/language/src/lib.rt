@@ -1,0 +1,118 @@
+// One command read from a position of a text, and what it asks for collected on the way. What an answer means is specs/Readers.antt.
+ghost use mathlib.Core.Path.{_≡_};
+ghost use mathlib.Core.Bool.{true};
+ghost use Prim.Native.Nat.{_+_, _<_, _≤_};
+ghost use lib.ListN.{length};
+ghost use Rattle.text.specs.Bytes.{nameWord};
+ghost use Rattle.text.specs.Language.{imp, name, want};
+ghost use Rattle.text.specs.Tokens.{mark};
+ghost use Rattle.words.specs.Reading.{part};
+ghost use Rattle.language.specs.Readers.{Answers, Any, PartOf, Span, anyWord, keyAt, keyNumber};
+
+// A part of the text that is of the kind asked for, if `there`.
+pub struct Part {
+    pub there: bool,
+    pub start: usize,
+    pub end: usize,
+}
+
+// A mark or a keyword that was asked for, and the position behind it.
+pub struct Step {
+    pub there: bool,
+    pub end: usize,
+}
+
+// ---- tokens
+
+// The next word.
+fn next_word(text: &[u8], at: usize) -> Part
+    requires { ⌜ at ≤ length (now text) ⌝ }
+    ensures { λ r. ⌜ Answers anyWord (PartOf (now (text .entry)) (r .start) (r .end)) (now (text .entry)) at (r .there) (r .end) ⌝ }
+{
+    match words::next_token(text, at) {
+        words::Token::Word(a, e) => Part { there: true, start: a, end: e },
+        words::Token::Quoted(_, _) => Part { there: false, start: at, end: at },
+        words::Token::Mark(_, _) => Part { there: false, start: at, end: at },
+        words::Token::End => Part { there: false, start: at, end: at },
+        words::Token::Bad => Part { there: false, start: at, end: at },
+    }
+}
+
+// An implementation: the word in its quotes. The position behind it is the one behind the closing quote, `end + 1`.
+fn read_imp(text: &[u8], at: usize) -> Part
+    requires { ⌜ at ≤ length (now text) ⌝ }
+    ensures { λ r. ⌜ Answers imp (PartOf (now (text .entry)) (r .start) (r .end)) (now (text .entry)) at (r .there) (r .end + 1) ⌝ }
+{
+    match words::next_token(text, at) {
+        words::Token::Quoted(a, e) => Part { there: true, start: a, end: e },
+        words::Token::Word(_, _) => Part { there: false, start: at, end: at },
+        words::Token::Mark(_, _) => Part { there: false, start: at, end: at },
+        words::Token::End => Part { there: false, start: at, end: at },
+        words::Token::Bad => Part { there: false, start: at, end: at },
+    }
+}
+
+// The mark c.
+fn want_mark(text: &[u8], at: usize, c: u8) -> Step
+    requires { ⌜ at ≤ length (now text) ⌝ }
+    ensures { λ r. ⌜ Answers (want (mark c)) Any (now (text .entry)) at (r .there) (r .end) ⌝ }
+{
+    match words::next_token(text, at) {
+        words::Token::Mark(d, e) => Step { there: d == c, end: e },
+        words::Token::Word(_, _) => Step { there: false, end: at },
+        words::Token::Quoted(_, _) => Step { there: false, end: at },
+        words::Token::End => Step { there: false, end: at },
+        words::Token::Bad => Step { there: false, end: at },
+    }
+}
+
+// The number of the keyword that the word from a to e is; 28 where it is none.
+fn keyword_between(text: &[u8], a: usize, e: usize) -> usize
+    requires { ⌜ Span (now text) a e ⌝ }
+    ensures { λ r. ⌜ r ≡ keyNumber (part (now (text .entry)) a e) ⌝ }
+{
+    if 32 < e - a {
+        return 28;
+    }
+    let names::Found::At(k) = words::keyword_of(words::word(text, a, e)) else {
+        return 28;
+    };
+    k
+}
+
+// The keyword with the number k.
+fn want_key(text: &[u8], at: usize, k: usize) -> Step
+    requires { ⌜ at ≤ length (now text) ⌝ }
+    requires { ⌜ k < 28 ⌝ }
+    ensures { λ r. ⌜ Answers (want (keyAt k)) Any (now (text .entry)) at (r .there) (r .end) ⌝ }
+{
+    let w = next_word(text, at);
+    if !w.there {
+        return Step { there: false, end: at };
+    }
+    let a = w.start;
+    let e = w.end;
+    Step { there: keyword_between(text, a, e) == k, end: e }
+}
+
+// Whether the word from a to e is a name.
+fn is_name_between(text: &[u8], a: usize, e: usize) -> bool
+    requires { ⌜ Span (now text) a e ⌝ }
+    ensures { λ r. ⌜ r ≡ nameWord (part (now (text .entry)) a e) ⌝ }
+{
+    words::is_name_word(words::word(text, a, e))
+}
+
+// A name.
+fn read_name(text: &[u8], at: usize) -> Part
+    requires { ⌜ at ≤ length (now text) ⌝ }
+    ensures { λ r. ⌜ Answers name (PartOf (now (text .entry)) (r .start) (r .end)) (now (text .entry)) at (r .there) (r .end) ⌝ }
+{
+    let w = next_word(text, at);
+    if !w.there {
+        return Part { there: false, start: at, end: at };
+    }
+    let a = w.start;
+    let e = w.end;
+    Part { there: is_name_between(text, a, e), start: a, end: e }
+}

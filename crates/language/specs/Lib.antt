@@ -1,2 +1,6 @@
 pub mod Readers
+pub mod Entering
+pub mod Steps
 pub mod TokenLaws
+pub mod TakeLaws
+pub mod ListLaws

@@ -3,7 +3,12 @@ ghost use mathlib.Core.Path.{_≡_};
 ghost use mathlib.Core.Bool.{true};
 ghost use Prim.Native.Nat.{_+_, _<_, _≤_};
 ghost use lib.ListN.{length};
-ghost use Rattle.text.specs.Bytes.{nameWord};
+ghost use Rattle.text.specs.Bytes.{nameWord, short};
+ghost use Rattle.names.specs.Stored.{tableOf};
+ghost use Rattle.model.specs.Book.{facilities};
+ghost use Rattle.sets.specs.Sets.{bit};
+ghost use Rattle.language.specs.Steps.{FacilityStep};
+ghost use Rattle.language.specs.Entering.{Enters, Kept};
 ghost use Rattle.text.specs.Language.{imp, name, want};
 ghost use Rattle.text.specs.Tokens.{mark};
 ghost use Rattle.words.specs.Reading.{part};
@@ -115,4 +120,93 @@ fn read_name(text: &[u8], at: usize) -> Part
     let a = w.start;
     let e = w.end;
     Part { there: is_name_between(text, a, e), start: a, end: e }
+}
+
+// ---- names put into a table
+
+// The place of a name in its table, or 0 where there was no room for it.
+pub struct Entry {
+    pub number: usize,
+    pub room: bool,
+}
+
+// The part of the text from a to e, put into the table if it is new.
+fn enter_part(names: &mut [u8], places: usize, text: &[u8], a: usize, e: usize) -> Entry
+    requires { ⌜ Kept places (now names) ⌝ }
+    requires { ⌜ Span (now text) a e ⌝ }
+    requires { ⌜ short (part (now text) a e) ≡ true ⌝ }
+    ensures { λ r. ⌜ Kept places (now (names .exit)) ⌝ }
+    ensures { λ r. ⌜ Enters places (tableOf places (now (names .entry))) (tableOf places (now (names .exit))) (r .number) (r .room) (part (now (text .entry)) a e) ⌝ }
+{
+    let names::Found::At(k) = names::enter(names, places, words::word(text, a, e)) else {
+        return Entry { number: 0, room: false };
+    };
+    Entry { number: k, room: true }
+}
+
+// A name that was read and put into its table, if `there`: the position behind it and its place.
+pub struct Taken {
+    pub there: bool,
+    pub end: usize,
+    pub number: usize,
+    pub room: bool,
+}
+
+// A name, put into the table if it is new.
+fn take_name(names: &mut [u8], places: usize, text: &[u8], at: usize) -> Taken
+    requires { ⌜ Kept places (now names) ⌝ }
+    requires { ⌜ at ≤ length (now text) ⌝ }
+    ensures { λ r. ⌜ Kept places (now (names .exit)) ⌝ }
+    ensures { λ r. ⌜ Answers name (Enters places (tableOf places (now (names .entry))) (tableOf places (now (names .exit))) (r .number) (r .room)) (now (text .entry)) at (r .there) (r .end) ⌝ }
+{
+    let w = read_name(text, at);
+    if !w.there {
+        return Taken { there: false, end: at, number: 0, room: true };
+    }
+    let a = w.start;
+    let e = w.end;
+    let n = enter_part(names, places, text, a, e);
+    Taken { there: true, end: e, number: n.number, room: n.room }
+}
+
+// An implementation, put into the table if it is new.
+fn take_imp(names: &mut [u8], places: usize, text: &[u8], at: usize) -> Taken
+    requires { ⌜ Kept places (now names) ⌝ }
+    requires { ⌜ at ≤ length (now text) ⌝ }
+    ensures { λ r. ⌜ Kept places (now (names .exit)) ⌝ }
+    ensures { λ r. ⌜ Answers imp (Enters places (tableOf places (now (names .entry))) (tableOf places (now (names .exit))) (r .number) (r .room)) (now (text .entry)) at (r .there) (r .end) ⌝ }
+{
+    let w = read_imp(text, at);
+    if !w.there {
+        return Taken { there: false, end: at, number: 0, room: true };
+    }
+    let a = w.start;
+    let e = w.end;
+    let n = enter_part(names, places, text, a, e);
+    Taken { there: true, end: e + 1, number: n.number, room: n.room }
+}
+
+// ---- facilities
+
+// Facilities that were read, if `there`: the position behind them, the set with their numbers, and whether there was room.
+pub struct Facilities {
+    pub there: bool,
+    pub end: usize,
+    pub set: u64,
+    pub room: bool,
+}
+
+// A facility: the set with its number.
+fn take_facility(facs: &mut [u8], text: &[u8], at: usize, set: u64, room: bool) -> Facilities
+    requires { ⌜ Kept facilities (now facs) ⌝ }
+    requires { ⌜ at ≤ length (now text) ⌝ }
+    ensures { λ r. ⌜ Kept facilities (now (facs .exit)) ⌝ }
+    ensures { λ r. ⌜ Answers name (FacilityStep (tableOf facilities (now (facs .entry)), bit set, room) (tableOf facilities (now (facs .exit)), bit (r .set), r .room)) (now (text .entry)) at (r .there) (r .end) ⌝ }
+{
+    let n = take_name(facs, 64, text, at);
+    if !n.there {
+        return Facilities { there: false, end: at, set: set, room: room };
+    }
+    let number = n.number;
+    Facilities { there: true, end: n.end, set: sets::with(set, number), room: room & n.room }
 }

@@ -7,9 +7,9 @@ ghost use Rattle.text.specs.Bytes.{nameWord, short};
 ghost use Rattle.names.specs.Stored.{tableOf};
 ghost use Rattle.model.specs.Book.{facilities};
 ghost use Rattle.sets.specs.Sets.{bit};
-ghost use Rattle.language.specs.Steps.{FacilityStep};
+ghost use Rattle.language.specs.Steps.{Each, FacilityStep};
 ghost use Rattle.language.specs.Entering.{Enters, Kept};
-ghost use Rattle.text.specs.Language.{imp, name, want};
+ghost use Rattle.text.specs.Language.{comma, imp, listOf, name, want};
 ghost use Rattle.text.specs.Tokens.{mark};
 ghost use Rattle.words.specs.Reading.{part};
 ghost use Rattle.language.specs.Readers.{Answers, Any, PartOf, Span, anyWord, keyAt, keyNumber};
@@ -209,4 +209,30 @@ fn take_facility(facs: &mut [u8], text: &[u8], at: usize, set: u64, room: bool) 
     }
     let number = n.number;
     Facilities { there: true, end: n.end, set: sets::with(set, number), room: room & n.room }
+}
+
+// facs = fac {"," fac}: the set with their numbers.
+fn take_facilities(facs: &mut [u8], text: &[u8], at: usize, set: u64, room: bool) -> Facilities
+    requires { ⌜ Kept facilities (now facs) ⌝ }
+    requires { ⌜ at ≤ length (now text) ⌝ }
+    ensures { λ r. ⌜ Kept facilities (now (facs .exit)) ⌝ }
+    ensures { λ r. ⌜ Answers (listOf comma name) (Each FacilityStep (tableOf facilities (now (facs .entry)), bit set, room) (tableOf facilities (now (facs .exit)), bit (r .set), r .room)) (now (text .entry)) at (r .there) (r .end) ⌝ }
+{
+    let mut i = at;
+    let mut s = set;
+    let mut fits = room;
+    loop {
+        let n = take_facility(facs, text, i, s, fits);
+        if !n.there {
+            return Facilities { there: false, end: at, set: set, room: room };
+        }
+        let e = n.end;
+        let m = want_mark(text, e, 44);
+        if !m.there {
+            return Facilities { there: true, end: e, set: n.set, room: n.room };
+        }
+        i = m.end;
+        s = n.set;
+        fits = n.room;
+    }
 }

@@ -4,3 +4,5 @@ pub mod Steps
 pub mod TokenLaws
 pub mod TakeLaws
 pub mod ListLaws
+pub mod Growth
+pub mod GrowthLaws

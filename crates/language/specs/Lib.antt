@@ -1,8 +1,10 @@
 pub mod Readers
 pub mod Entering
 pub mod Steps
+pub mod Asked
+pub mod Growth
 pub mod TokenLaws
 pub mod TakeLaws
 pub mod ListLaws
-pub mod Growth
 pub mod GrowthLaws
+pub mod ProductionLaws

@@ -3,7 +3,7 @@ use mathlib.Core.Bool.{Bool, false, true}
 use mathlib.Core.Bool.{not as notᵇ}
 use mathlib.Core.List.{List, [], _∷_}
 use mathlib.Core.Option.{Option, none, some}
-use mathlib.Core.Path.{_∙_, _≡_, ap, refl, sym}
+use mathlib.Core.Path.{_∙_, _≡_, ap, refl, subst, sym}
 use Prim.Native.Nat.{_<_, _≤_, ℕ}
 use native.Mathlib.Nat.{le-refl}
 use native.Mathlib.Omega.{arith}
@@ -48,8 +48,11 @@ leads-start k p R t at s h = record { from = le-refl at; inside = h; on = λ e s
 
 module _ {S A : Type 0} (k : Token) (p : Reader A) (R : S → S → A → Type 0) (takes : Takes 1 p) (t : Text) (at i e : ℕ) (s₀ s s′ : S)
     (there : Bool) (l : Leads k p R t at s₀ i s) (r : Answers p (R s s′) t i there e) where
-  pub leads-wrong : (Q : List A → Type 0) (z : ℕ) → notᵇ there ≡ true → Answers (listOf k p) Q t at false z
-  leads-wrong Q z n = answer-no _ Q t at z (l .off (list-none k p takes (drop i t) (r .no (not-true there n))))
+  pub leads-wrong : (Q : List A → Type 0) (z : ℕ) → notᵇ there ≡ true → Answers (listOf k p) Q t at there z
+  leads-wrong Q z n =
+      let o = not-true there n in
+      subst (λ (b : Bool). Answers (listOf k p) Q t at b z) (sym o)
+      (answer-no _ Q t at z (l .off (list-none k p takes (drop i t) (r .no o))))
 
   module _ (n : notᵇ there ≡ false) where
     got : Got p (R s s′) t i e
@@ -59,16 +62,17 @@ module _ {S A : Type 0} (k : Token) (p : Reader A) (R : S → S → A → Type 0
     leads-inside = got .inside
 
     module _ (next : Bool) (z : ℕ) (m : Answers (want k) Any t e next z) where
-      pub leads-last : notᵇ next ≡ true → Answers (listOf k p) (Each R s₀ s′) t at true e
+      pub leads-last : notᵇ next ≡ true → Answers (listOf k p) (Each R s₀ s′) t at there e
       unfolding Each
       leads-last o =
-          answer-yes _ _ t at e (l .on e s′ (record {
+          subst (λ (b : Bool). Answers (listOf k p) (Each R s₀ s′) t at b e) (sym (not-false there n))
+          (answer-yes _ _ t at e (l .on e s′ (record {
             value = got .value ∷ [];
             is = list-one k p takes (drop i t) (drop e t) (drop e t) (got .value) (got .is) (ahead-no k t e (m .no (not-true next o)));
             took = (s′, got .took, refl);
             from = got .from;
             inside = got .inside;
-          }))
+          })))
 
       module _ (o : notᵇ next ≡ false) where
         parted : Got (want k) Any t e z

@@ -28,6 +28,10 @@ pub record Answers {A : Type 0} (p : Reader A) (R : A → Type 0) (t : Text) (at
 -- nothing more is said of the value
 pub record Any {A : Type 0} (x : A) : Type 0 where
 
+-- the value is this flag
+pub record Told (b : Bool) (x : Bool) : Type 0 where
+  pub is : x ≡ b
+
 -- a part of the text, of a byte at least
 pub record Span (t : Text) (a e : ℕ) : Type 0 where
   pub some-bytes : a < e

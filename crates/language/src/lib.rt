@@ -5,14 +5,16 @@ ghost use Prim.Native.Nat.{_+_, _<_, _≤_};
 ghost use lib.ListN.{length};
 ghost use Rattle.text.specs.Bytes.{nameWord, short};
 ghost use Rattle.names.specs.Stored.{tableOf};
-ghost use Rattle.model.specs.Book.{facilities};
+ghost use Rattle.model.specs.Book.{facilities, versions};
+ghost use Rattle.sets.specs.Tests.{if_then_else_};
 ghost use Rattle.sets.specs.Sets.{bit};
 ghost use Rattle.language.specs.Steps.{Each, FacilityStep};
+ghost use Rattle.language.specs.Asked.{SpecStep, specState};
 ghost use Rattle.language.specs.Entering.{Enters, Kept};
-ghost use Rattle.text.specs.Language.{comma, imp, listOf, name, want};
+ghost use Rattle.text.specs.Language.{ahead, comma, imp, listOf, name, namesUpTo, requirements, semicolon, specVersion, want};
 ghost use Rattle.text.specs.Tokens.{mark};
 ghost use Rattle.words.specs.Reading.{part};
-ghost use Rattle.language.specs.Readers.{Answers, Any, PartOf, Span, anyWord, keyAt, keyNumber};
+ghost use Rattle.language.specs.Readers.{Answers, Any, Got, PartOf, Span, Told, anyWord, keyAt, keyNumber};
 
 // A part of the text that is of the kind asked for, if `there`.
 pub struct Part {
@@ -26,6 +28,14 @@ pub struct Step {
     pub there: bool,
     pub end: usize,
 }
+
+// The numbers of the keywords that stand within a command.
+const END: usize = 3;
+const PROVIDES: usize = 12;
+const STD: usize = 13;
+const REQUIRES: usize = 14;
+const IMPL: usize = 17;
+const USE: usize = 19;
 
 // ---- tokens
 
@@ -98,6 +108,31 @@ fn want_key(text: &[u8], at: usize, k: usize) -> Step
     let a = w.start;
     let e = w.end;
     Step { there: keyword_between(text, a, e) == k, end: e }
+}
+
+// Whether the keyword with the number k comes next; the position behind it if it does.
+fn pass_key(text: &[u8], at: usize, k: usize) -> Step
+    requires { ⌜ at ≤ length (now text) ⌝ }
+    requires { ⌜ k < 28 ⌝ }
+    ensures { λ r. ⌜ Got (ahead (keyAt k)) (Told (r .there)) (now (text .entry)) at (r .end) ⌝ }
+{
+    let s = want_key(text, at, k);
+    if s.there {
+        return Step { there: true, end: s.end };
+    }
+    Step { there: false, end: at }
+}
+
+// Whether the mark c comes next; the position behind it if it does.
+fn pass_mark(text: &[u8], at: usize, c: u8) -> Step
+    requires { ⌜ at ≤ length (now text) ⌝ }
+    ensures { λ r. ⌜ Got (ahead (mark c)) (Told (r .there)) (now (text .entry)) at (r .end) ⌝ }
+{
+    let s = want_mark(text, at, c);
+    if s.there {
+        return Step { there: true, end: s.end };
+    }
+    Step { there: false, end: at }
 }
 
 // Whether the word from a to e is a name.
@@ -224,15 +259,110 @@ fn take_facilities(facs: &mut [u8], text: &[u8], at: usize, set: u64, room: bool
     loop {
         let n = take_facility(facs, text, i, s, fits);
         if !n.there {
-            return Facilities { there: false, end: at, set: set, room: room };
+            return n;
         }
         let e = n.end;
         let m = want_mark(text, e, 44);
         if !m.there {
-            return Facilities { there: true, end: e, set: n.set, room: n.room };
+            return n;
         }
         i = m.end;
         s = n.set;
         fits = n.room;
+    }
+}
+
+// ["requires" facs]: the set of their numbers.
+fn take_requirements(facs: &mut [u8], text: &[u8], at: usize, room: bool) -> Facilities
+    requires { ⌜ Kept facilities (now facs) ⌝ }
+    requires { ⌜ at ≤ length (now text) ⌝ }
+    ensures { λ r. ⌜ Kept facilities (now (facs .exit)) ⌝ }
+    ensures { λ r. ⌜ Answers requirements (Each FacilityStep (tableOf facilities (now (facs .entry)), bit 0, room) (tableOf facilities (now (facs .exit)), bit (r .set), r .room)) (now (text .entry)) at (r .there) (r .end) ⌝ }
+{
+    let k = want_key(text, at, REQUIRES);
+    if !k.there {
+        return Facilities { there: true, end: at, set: 0, room: room };
+    }
+    let e = k.end;
+    take_facilities(facs, text, e, 0, room)
+}
+
+// [facs] ";": the set of their numbers.
+fn take_provided(facs: &mut [u8], text: &[u8], at: usize) -> Facilities
+    requires { ⌜ Kept facilities (now facs) ⌝ }
+    requires { ⌜ at ≤ length (now text) ⌝ }
+    ensures { λ r. ⌜ Kept facilities (now (facs .exit)) ⌝ }
+    ensures { λ r. ⌜ Answers (namesUpTo semicolon) (Each FacilityStep (tableOf facilities (now (facs .entry)), bit 0, true) (tableOf facilities (now (facs .exit)), bit (r .set), r .room)) (now (text .entry)) at (r .there) (r .end) ⌝ }
+{
+    let k = want_mark(text, at, 59);
+    if k.there {
+        return Facilities { there: true, end: k.end, set: 0, room: true };
+    }
+    let n = take_facilities(facs, text, at, 0, true);
+    if !n.there {
+        return n;
+    }
+    let e = n.end;
+    let m = want_mark(text, e, 59);
+    Facilities { there: m.there, end: m.end, set: n.set, room: n.room }
+}
+
+// ---- a specification
+
+// Versions with the facilities that each requires, if `there`; whether one, and another, carries "std", and which; and
+// whether there was room for the names of versions (`vers`) and of facilities (`facs`).
+pub struct SpecVersions {
+    pub there: bool,
+    pub end: usize,
+    pub sets: requests::Sets,
+    pub found: bool,
+    pub twice: bool,
+    pub standard: usize,
+    pub vers: bool,
+    pub facs: bool,
+}
+
+fn either(b: bool, x: usize, y: usize) -> usize
+    ensures { λ r. ⌜ r ≡ (if b then x else y) ⌝ }
+{
+    if b {
+        x
+    } else {
+        y
+    }
+}
+
+// ["std"] vn ["requires" facs]
+fn take_spec_version(vers: &mut [u8], facs: &mut [u8], text: &[u8], at: usize, g: SpecVersions) -> SpecVersions
+    requires { ⌜ Kept versions (now vers) ⌝ }
+    requires { ⌜ Kept facilities (now facs) ⌝ }
+    requires { ⌜ at ≤ length (now text) ⌝ }
+    ensures { λ r. ⌜ Kept versions (now (vers .exit)) ⌝ }
+    ensures { λ r. ⌜ Kept facilities (now (facs .exit)) ⌝ }
+    ensures { λ r. ⌜ Answers specVersion (SpecStep (specState (now (vers .entry)) (now (facs .entry)) g) (specState (now (vers .exit)) (now (facs .exit)) r)) (now (text .entry)) at (r .there) (r .end) ⌝ }
+{
+    let mut wrong = g;
+    wrong.there = false;
+    let std = pass_key(text, at, STD);
+    let a = std.end;
+    let v = take_name(vers, 64, text, a);
+    if !v.there {
+        return wrong;
+    }
+    let e = v.end;
+    let q = take_requirements(facs, text, e, g.facs);
+    if !q.there {
+        return wrong;
+    }
+    let sets = g.sets;
+    SpecVersions {
+        there: true,
+        end: q.end,
+        sets: requests::with_set(sets, v.number, q.set),
+        found: g.found | std.there,
+        twice: g.twice | (g.found & std.there),
+        standard: either(std.there, v.number, g.standard),
+        vers: g.vers & v.room,
+        facs: q.room,
     }
 }

@@ -1,0 +1,58 @@
+-- What the reader of an adding command carries from entry to entry of its longest list.
+use mathlib.Core.Bool.{Bool, true}
+use mathlib.Core.List.{List}
+use mathlib.Core.Path.{_≡_}
+use Prim.Native.Nat.{ℕ}
+use Rattle.model.specs.Book.{facilities, versions}
+use Rattle.model.specs.Lists.{setOf}
+use Rattle.model.specs.Questions.{eachBelow}
+use Rattle.names.specs.Stored.{tableOf}
+use Rattle.requests.specs.Gathered.{Gathered}
+use Rattle.requests.specs.Said.{setsStep}
+use Rattle.requests.specs.Views.{setsView}
+use Rattle.sets.specs.Sets.{Set, bit}
+use Rattle.sets.specs.Tests.{_&_, _or_, if_then_else_}
+use Rattle.text.specs.Language.{Name}
+use Rattle.text.specs.Tables.{Table}
+use Rattle.language.specs.Entering.{Enters}
+use Rattle.language.specs.Steps.{Each, FacilityStep}
+use Rattle.language.specs.declared.SpecVersions.{SpecVersions}
+
+-- ---- versions of a specification
+
+pub record SpecState : Type 0 where
+  pub vers : Table
+  pub facs : Table
+  pub sets : Gathered Set
+  -- a version carries "std"; another one does
+  pub found : Bool
+  pub twice : Bool
+  -- the last that does
+  pub standard : ℕ
+  -- there was room for the versions; for the facilities
+  pub versFit : Bool
+  pub facsFit : Bool
+
+unfoldable pub specState : List ℕ → List ℕ → SpecVersions → SpecState
+specState v f g = record {
+  vers = tableOf versions v;
+  facs = tableOf facilities f;
+  sets = setsView (g .sets);
+  found = g .found;
+  twice = g .twice;
+  standard = g .standard;
+  versFit = g .vers;
+  facsFit = g .facs;
+}
+
+pub record SpecStep (s s′ : SpecState) (x : Bool × (Name × List Name)) : Type 0 where
+  pub number : ℕ
+  pub placed : Bool
+  pub enters : Enters versions (s .vers) (s′ .vers) number placed (x .1 .0)
+  pub required : Set
+  pub requires : Each FacilityStep (s .facs, bit 0, s .facsFit) (s′ .facs, required, s′ .facsFit) (x .1 .1)
+  pub sets : (fs : List ℕ) → eachBelow facilities fs ≡ true → setOf fs ≡ required → s′ .sets ≡ setsStep (s .sets) (number, fs)
+  pub found : s′ .found ≡ (s .found or x .0)
+  pub twice : s′ .twice ≡ (s .twice or (s .found & x .0))
+  pub standard : s′ .standard ≡ (if x .0 then number else s .standard)
+  pub fits : s′ .versFit ≡ (s .versFit & placed)

@@ -56,3 +56,15 @@ pub record SpecStep (s s′ : SpecState) (x : Bool × (Name × List Name)) : Typ
   pub twice : s′ .twice ≡ (s .twice or (s .found & x .0))
   pub standard : s′ .standard ≡ (if x .0 then number else s .standard)
   pub fits : s′ .versFit ≡ (s .versFit & placed)
+
+-- r is g with one version more
+pub record SpecWith (g : SpecVersions) (std : Bool) (number : ℕ) (placed : Bool) (required : ℕ) (fit : Bool) (z : ℕ) (r : SpecVersions) : Type 0 where
+  pub there : r .there ≡ true
+  pub end : r .end ≡ z
+  pub sets : (fs : List ℕ) → eachBelow facilities fs ≡ true → setOf fs ≡ bit required
+      → setsView (r .sets) ≡ setsStep (setsView (g .sets)) (number, fs)
+  pub found : r .found ≡ (g .found or std)
+  pub twice : r .twice ≡ (g .twice or (g .found & std))
+  pub standard : r .standard ≡ (if std then number else g .standard)
+  pub vers : r .vers ≡ (g .vers & placed)
+  pub facs : r .facs ≡ fit

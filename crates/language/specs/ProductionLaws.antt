@@ -24,7 +24,7 @@ use Rattle.text.specs.Language.{Name, Reader, _>>=_, _>>_, ahead, comma, give, 
 use Rattle.text.specs.Language.{specVersion, want, when}
 use Rattle.text.specs.Tables.{Table, nameAt}
 use Rattle.text.specs.Tokens.{Token}
-use Rattle.language.specs.Asked.{SpecStep, specState}
+use Rattle.language.specs.Asked.{SpecStep, SpecWith, specState}
 use Rattle.language.specs.Entering.{Enters}
 use Rattle.language.specs.Readers.{Answers, Any, Got, Told, keyAt}
 use Rattle.language.specs.Steps.{Each, FacilityStep}
@@ -40,6 +40,12 @@ requires-key = refl
 std-key : keyAt 13 ≡ key "std"
 unfolding keyAt key nameAt keywords bytes
 std-key = refl
+
+-- an answer that is told by its flag and its end
+at-end : {A : Type 0} {p : Reader A} {R : A → Type 0} {t : Text} {at z e : ℕ} {there : Bool} → there ≡ true → e ≡ z → Answers p R t at true z
+    → Answers p R t at there e
+at-end {p = p} {R = R} {t = t} {at = at} {z = z} {e = e} y q a =
+    subst (λ (b : Bool). Answers p R t at b e) (sym y) (subst (λ (i : ℕ). Answers p R t at true i) (sym q) a)
 
 -- ---- what stands next
 
@@ -170,37 +176,24 @@ module _ (t : Text) (at a e : ℕ) (std there : Bool) (p : Got (ahead (keyAt 13)
           inside = h .inside;
         })
 
-module _ (t : Text) (at a e z : ℕ) (std there ok : Bool) (W W′ F F′ : List ℕ) (g : SpecVersions) (number : ℕ) (placed : Bool) (required : ℕ)
-    (fit : Bool) (s′ : Sets) (k : ℕ) where
-  pub spec-version-taken : Got (ahead (keyAt 13)) (Told std) t at a
-      → Answers name (Enters versions (tableOf versions W) (tableOf versions W′) number placed) t a there e → notᵇ there ≡ false
-      → Answers requirements
-      (Each FacilityStep (tableOf facilities F, bit 0, g .facs) (tableOf facilities F′, bit required, fit)) t e ok z
-      → notᵇ ok ≡ false
-      → ((fs : List ℕ) → eachBelow facilities fs ≡ true → setOf fs ≡ bit required
-      → setsView s′ ≡ setsStep (setsView (g .sets)) (number, fs))
-      → k ≡ (if std then number else g .standard)
-      → Answers specVersion (SpecStep (specState W F g) (specState W′ F′ (record {
-        there = true;
-        end = z;
-        sets = s′;
-        found = g .found || std;
-        twice = g .twice || (g .found && std);
-        standard = k;
-        vers = g .vers && placed;
-        facs = fit;
-      }))) t at true z
-  unfolding specState _or_ _&_
-  spec-version-taken p n y q o w c =
-      spec-version-is t at a e std there p _ n y _ ok z q _ o (λ v rs b d. record {
-        number = number;
-        placed = placed;
-        enters = b;
-        required = bit required;
-        requires = d;
-        sets = w;
-        found = refl;
-        twice = refl;
-        standard = c;
-        fits = refl;
-      })
+pub spec-version-taken : (t : Text) (at a e z : ℕ) (std there ok : Bool) (W W′ F F′ : List ℕ) (g : SpecVersions) (number : ℕ) (placed : Bool)
+    (required : ℕ) (fit : Bool) (r : SpecVersions) → Got (ahead (keyAt 13)) (Told std) t at a
+    → Answers name (Enters versions (tableOf versions W) (tableOf versions W′) number placed) t a there e → notᵇ there ≡ false
+    → Answers requirements
+    (Each FacilityStep (tableOf facilities F, bit 0, g .facs) (tableOf facilities F′, bit required, fit)) t e ok z
+    → notᵇ ok ≡ false → SpecWith g std number placed required fit z r
+    → Answers specVersion (SpecStep (specState W F g) (specState W′ F′ r)) t at (r .there) (r .end)
+unfolding specState
+spec-version-taken t at a e z std there ok W W′ F F′ g number placed required fit r p n y q o w =
+    at-end (w .there) (w .end) (spec-version-is t at a e std there p _ n y _ ok z q _ o (λ v rs b d. record {
+      number = number;
+      placed = placed;
+      enters = b;
+      required = bit required;
+      requires = subst (λ (x : Bool). Each FacilityStep (tableOf facilities F, bit 0, g .facs) (tableOf facilities F′, bit required, x) rs) (sym (w .facs)) d;
+      sets = w .sets;
+      found = w .found;
+      twice = w .twice;
+      standard = w .standard;
+      fits = w .vers;
+    }))

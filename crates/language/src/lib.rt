@@ -9,7 +9,7 @@ ghost use Rattle.model.specs.Book.{facilities, versions};
 ghost use Rattle.sets.specs.Tests.{if_then_else_};
 ghost use Rattle.sets.specs.Sets.{bit};
 ghost use Rattle.language.specs.Steps.{Each, FacilityStep};
-ghost use Rattle.language.specs.Asked.{SpecStep, specState};
+ghost use Rattle.language.specs.Asked.{SpecStep, SpecWith, specState};
 ghost use Rattle.language.specs.Entering.{Enters, Kept};
 ghost use Rattle.text.specs.Language.{ahead, comma, imp, listOf, name, namesUpTo, requirements, semicolon, specVersion, want};
 ghost use Rattle.text.specs.Tokens.{mark};
@@ -332,6 +332,23 @@ fn either(b: bool, x: usize, y: usize) -> usize
     }
 }
 
+// The version v, with "std" or without, that requires q.
+fn with_spec_version(g: SpecVersions, std: bool, v: Taken, q: Facilities) -> SpecVersions
+    ensures { λ r. ⌜ SpecWith g std (v .number) (v .room) (q .set) (q .room) (q .end) r ⌝ }
+{
+    let sets = g.sets;
+    SpecVersions {
+        there: true,
+        end: q.end,
+        sets: requests::with_set(sets, v.number, q.set),
+        found: g.found | std,
+        twice: g.twice | (g.found & std),
+        standard: either(std, v.number, g.standard),
+        vers: g.vers & v.room,
+        facs: q.room,
+    }
+}
+
 // ["std"] vn ["requires" facs]
 fn take_spec_version(vers: &mut [u8], facs: &mut [u8], text: &[u8], at: usize, g: SpecVersions) -> SpecVersions
     requires { ⌜ Kept versions (now vers) ⌝ }
@@ -354,15 +371,5 @@ fn take_spec_version(vers: &mut [u8], facs: &mut [u8], text: &[u8], at: usize, g
     if !q.there {
         return wrong;
     }
-    let sets = g.sets;
-    SpecVersions {
-        there: true,
-        end: q.end,
-        sets: requests::with_set(sets, v.number, q.set),
-        found: g.found | std.there,
-        twice: g.twice | (g.found & std.there),
-        standard: either(std.there, v.number, g.standard),
-        vers: g.vers & v.room,
-        facs: q.room,
-    }
+    with_spec_version(g, std.there, v, q)
 }

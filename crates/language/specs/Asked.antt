@@ -1,5 +1,5 @@
 -- What the reader of an adding command carries from entry to entry of its longest list.
-use mathlib.Core.Bool.{Bool, true}
+use mathlib.Core.Bool.{Bool, false, true}
 use mathlib.Core.List.{List}
 use mathlib.Core.Path.{_≡_}
 use Prim.Native.Nat.{ℕ}
@@ -7,7 +7,7 @@ use Rattle.model.specs.Book.{facilities, versions}
 use Rattle.model.specs.Lists.{setOf}
 use Rattle.model.specs.Questions.{eachBelow}
 use Rattle.names.specs.Stored.{tableOf}
-use Rattle.requests.specs.Gathered.{Gathered}
+use Rattle.requests.specs.Gathered.{Gathered, nothing}
 use Rattle.requests.specs.Said.{setsStep}
 use Rattle.requests.specs.Views.{setsView}
 use Rattle.sets.specs.Sets.{Set, bit}
@@ -44,6 +44,11 @@ specState v f g = record {
   versFit = g .vers;
   facsFit = g .facs;
 }
+
+-- no version yet
+unfoldable pub specStart : Table → Table → Bool → SpecState
+specStart v f room =
+    record { vers = v; facs = f; sets = nothing; found = false; twice = false; standard = 0; versFit = true; facsFit = room }
 
 pub record SpecStep (s s′ : SpecState) (x : Bool × (Name × List Name)) : Type 0 where
   pub number : ℕ

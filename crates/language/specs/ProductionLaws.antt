@@ -24,7 +24,8 @@ use Rattle.text.specs.Language.{Name, Reader, _>>=_, _>>_, ahead, comma, give, 
 use Rattle.text.specs.Language.{specVersion, want, when}
 use Rattle.text.specs.Tables.{Table, nameAt}
 use Rattle.text.specs.Tokens.{Token}
-use Rattle.language.specs.Asked.{SpecStep, SpecWith, specState}
+use Rattle.language.specs.Asked.{SpecStep, SpecWith, specStart, specState}
+use Rattle.requests.specs.Gathered.{Gathered, nothing}
 use Rattle.language.specs.Entering.{Enters}
 use Rattle.language.specs.Readers.{Answers, Any, Got, Told, keyAt}
 use Rattle.language.specs.Steps.{Each, FacilityStep}
@@ -197,3 +198,25 @@ spec-version-taken t at a e z std there ok W W′ F F′ g number placed require
       standard = w .standard;
       fits = w .vers;
     }))
+
+pub spec-start : (g : Sets) (room : Bool) → setsView g ≡ nothing → (v f : List ℕ) → specState v f (record {
+  there = true;
+  end = 0;
+  sets = g;
+  found = false;
+  twice = false;
+  standard = 0;
+  vers = true;
+  facs = room;
+}) ≡ specStart (tableOf versions v) (tableOf facilities f) room
+unfolding specState specStart
+spec-start g room e v f = ap (λ (z : Gathered Set). record {
+  vers = tableOf versions v;
+  facs = tableOf facilities f;
+  sets = z;
+  found = false;
+  twice = false;
+  standard = 0;
+  versFit = true;
+  facsFit = room;
+}) e

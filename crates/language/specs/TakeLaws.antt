@@ -141,3 +141,6 @@ facility-taken t at e there u u′ k room set set′ before r n q =
       from = g .from;
       inside = g .inside;
     })
+
+pub kept-same : (n : ℕ) (b b′ : List ℕ) → Kept n b′ → Kept n b → length b′ ≡ length b
+kept-same n b b′ h k = h .long ∙ sym (k .long)

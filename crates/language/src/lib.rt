@@ -1,7 +1,8 @@
 // One command read from a position of a text, and what it asks for collected on the way. What an answer means is specs/Readers.antt.
 ghost use mathlib.Core.Path.{_≡_};
 ghost use mathlib.Core.Bool.{true};
-ghost use Prim.Native.Nat.{_+_, _<_, _≤_};
+ghost use mathlib.Core.List.{List};
+ghost use Prim.Native.Nat.{ℕ, _+_, _<_, _≤_};
 ghost use lib.ListN.{length};
 ghost use Rattle.text.specs.Bytes.{nameWord, short};
 ghost use Rattle.names.specs.Stored.{tableOf};
@@ -9,7 +10,7 @@ ghost use Rattle.model.specs.Book.{facilities, versions};
 ghost use Rattle.sets.specs.Tests.{if_then_else_};
 ghost use Rattle.sets.specs.Sets.{bit};
 ghost use Rattle.language.specs.Steps.{Each, FacilityStep};
-ghost use Rattle.language.specs.Asked.{SpecStep, SpecWith, specState};
+ghost use Rattle.language.specs.Asked.{SpecStep, SpecWith, specStart, specState};
 ghost use Rattle.language.specs.Entering.{Enters, Kept};
 ghost use Rattle.text.specs.Language.{ahead, comma, imp, listOf, name, namesUpTo, requirements, semicolon, specVersion, want};
 ghost use Rattle.text.specs.Tokens.{mark};
@@ -372,4 +373,45 @@ fn take_spec_version(vers: &mut [u8], facs: &mut [u8], text: &[u8], at: usize, g
         return wrong;
     }
     with_spec_version(g, std.there, v, q)
+}
+
+// ["std"] vn ["requires" facs] {";" ["std"] vn ["requires" facs]}
+fn take_spec_versions(vers: &mut [u8], facs: &mut [u8], text: &[u8], at: usize, start: SpecVersions) -> SpecVersions
+    requires { ⌜ Kept versions (now vers) ⌝ }
+    requires { ⌜ Kept facilities (now facs) ⌝ }
+    requires { ⌜ at ≤ length (now text) ⌝ }
+    ensures { λ r. ⌜ Kept versions (now (vers .exit)) ⌝ }
+    ensures { λ r. ⌜ Kept facilities (now (facs .exit)) ⌝ }
+    ensures { λ r. ⌜ Answers (listOf semicolon specVersion) (Each SpecStep (specState (now (vers .entry)) (now (facs .entry)) start) (specState (now (vers .exit)) (now (facs .exit)) r)) (now (text .entry)) at (r .there) (r .end) ⌝ }
+{
+    let mut i = at;
+    let mut g = start;
+    loop {
+        let n = take_spec_version(vers, facs, text, i, g);
+        if !n.there {
+            return n;
+        }
+        let e = n.end;
+        let m = want_mark(text, e, 59);
+        if !m.there {
+            return n;
+        }
+        i = m.end;
+        g = n;
+    }
+}
+
+fn no_spec_versions(room: bool) -> SpecVersions
+    ensures { λ r. ⌜ ((v f : List ℕ) → specState v f r ≡ specStart (tableOf versions v) (tableOf facilities f) room) ⌝ }
+{
+    SpecVersions {
+        there: true,
+        end: 0,
+        sets: requests::no_sets(),
+        found: false,
+        twice: false,
+        standard: 0,
+        vers: true,
+        facs: room,
+    }
 }

@@ -8,3 +8,5 @@ pub mod TakeLaws
 pub mod ListLaws
 pub mod GrowthLaws
 pub mod ProductionLaws
+pub mod FacilityLaws
+pub mod SpecLaws

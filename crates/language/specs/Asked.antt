@@ -1,6 +1,6 @@
 -- What the reader of an adding command carries from entry to entry of its longest list.
 use mathlib.Core.Bool.{Bool, false, true}
-use mathlib.Core.List.{List}
+use mathlib.Core.List.{List, [], _∷_}
 use mathlib.Core.Path.{_≡_}
 use Prim.Native.Nat.{ℕ}
 use Rattle.model.specs.Book.{facilities, versions}
@@ -11,8 +11,8 @@ use Rattle.requests.specs.Gathered.{Gathered, nothing}
 use Rattle.requests.specs.Said.{setsStep}
 use Rattle.requests.specs.Views.{setsView}
 use Rattle.sets.specs.Sets.{Set, bit}
-use Rattle.sets.specs.Tests.{_&_, _or_, if_then_else_}
-use Rattle.text.specs.Language.{Name}
+use Rattle.sets.specs.Tests.{_&_, _or_, if_then_else_, ~_}
+use Rattle.text.specs.Language.{Name, Reader, _>>=_, _>>_, give, key, listOf, semicolon, specVersion, standards, theOne, want}
 use Rattle.text.specs.Tables.{Table}
 use Rattle.language.specs.Entering.{Enters}
 use Rattle.language.specs.Steps.{Each, FacilityStep}
@@ -73,3 +73,21 @@ pub record SpecWith (g : SpecVersions) (std : Bool) (number : ℕ) (placed : Boo
   pub standard : r .standard ≡ (if std then number else g .standard)
   pub vers : r .vers ≡ (g .vers & placed)
   pub facs : r .facs ≡ fit
+
+-- the versions and the standard version, from behind "provides" up to "end"
+unfoldable pub specBody : Reader (List (Bool × (Name × List Name)) × Name)
+specBody = do
+  vs ← listOf semicolon specVersion
+  want (key "end")
+  s ← theOne (standards vs)
+  give (vs, s)
+
+pub record SpecBody (s s′ : SpecState) (x : List (Bool × (Name × List Name)) × Name) : Type 0 where
+  pub steps : Each SpecStep s s′ (x .0)
+  pub one : standards (x .0) ≡ x .1 ∷ []
+
+-- r is v, read up to "end"
+pub record SpecEnds (v : SpecVersions) (there : Bool) (z : ℕ) (r : SpecVersions) : Type 0 where
+  pub there-is : r .there ≡ (there & (v .found & ~ v .twice))
+  pub end-is : r .end ≡ z
+  pub rest : (w f : List ℕ) → specState w f r ≡ specState w f v

@@ -10,7 +10,7 @@ ghost use Rattle.model.specs.Book.{facilities, versions};
 ghost use Rattle.sets.specs.Tests.{if_then_else_};
 ghost use Rattle.sets.specs.Sets.{bit};
 ghost use Rattle.language.specs.Steps.{Each, FacilityStep};
-ghost use Rattle.language.specs.Asked.{SpecStep, SpecWith, specStart, specState};
+ghost use Rattle.language.specs.Asked.{SpecBody, SpecEnds, SpecStep, SpecWith, specBody, specStart, specState};
 ghost use Rattle.language.specs.Entering.{Enters, Kept};
 ghost use Rattle.text.specs.Language.{ahead, comma, imp, listOf, name, namesUpTo, requirements, semicolon, specVersion, want};
 ghost use Rattle.text.specs.Tokens.{mark};
@@ -414,4 +414,31 @@ fn no_spec_versions(room: bool) -> SpecVersions
         vers: true,
         facs: room,
     }
+}
+
+// Versions read up to "end", of which exactly one carries "std".
+fn ended(v: SpecVersions, m: Step) -> SpecVersions
+    ensures { λ r. ⌜ SpecEnds v (m .there) (m .end) r ⌝ }
+{
+    let mut r = v;
+    r.there = m.there & (v.found & !v.twice);
+    r.end = m.end;
+    r
+}
+
+// The versions of a specification, up to "end".
+fn take_spec_body(vers: &mut [u8], facs: &mut [u8], text: &[u8], at: usize, room: bool) -> SpecVersions
+    requires { ⌜ Kept versions (now vers) ⌝ }
+    requires { ⌜ Kept facilities (now facs) ⌝ }
+    requires { ⌜ at ≤ length (now text) ⌝ }
+    ensures { λ r. ⌜ Kept versions (now (vers .exit)) ⌝ }
+    ensures { λ r. ⌜ Kept facilities (now (facs .exit)) ⌝ }
+    ensures { λ r. ⌜ Answers specBody (SpecBody (specStart (tableOf versions (now (vers .entry))) (tableOf facilities (now (facs .entry))) room) (specState (now (vers .exit)) (now (facs .exit)) r)) (now (text .entry)) at (r .there) (r .end) ⌝ }
+{
+    let v = take_spec_versions(vers, facs, text, at, no_spec_versions(room));
+    if !v.there {
+        return v;
+    }
+    let e = v.end;
+    ended(v, want_key(text, e, END))
 }

@@ -28,7 +28,7 @@ unfolding enter
 enter-append t [] ys = refl
 enter-append t (x ∷ xs) ys = enter-append _ xs ys
 
-enter-nothing : (t : Table) → enter t [] ≡ t
+pub enter-nothing : (t : Table) → enter t [] ≡ t
 unfolding enter
 enter-nothing t = refl
 

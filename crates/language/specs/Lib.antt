@@ -2,6 +2,7 @@ pub mod Readers
 pub mod Entering
 pub mod Steps
 pub mod Asked
+pub mod Requested
 pub mod Growth
 pub mod TokenLaws
 pub mod TakeLaws
@@ -10,3 +11,5 @@ pub mod GrowthLaws
 pub mod ProductionLaws
 pub mod FacilityLaws
 pub mod SpecLaws
+pub mod ReaderLaws
+pub mod SpecRequestLaws

@@ -1,18 +1,19 @@
 // One command read from a position of a text, and what it asks for collected on the way. What an answer means is specs/Readers.antt.
 ghost use mathlib.Core.Path.{_≡_};
-ghost use mathlib.Core.Bool.{true};
+ghost use mathlib.Core.Bool.{true, false};
 ghost use mathlib.Core.List.{List};
 ghost use Prim.Native.Nat.{ℕ, _+_, _<_, _≤_};
 ghost use lib.ListN.{length};
 ghost use Rattle.text.specs.Bytes.{nameWord, short};
-ghost use Rattle.names.specs.Stored.{tableOf};
-ghost use Rattle.model.specs.Book.{facilities, versions};
+ghost use Rattle.names.specs.Stored.{tableOf, tablesOf};
+ghost use Rattle.language.specs.Requested.{SpecAsked, SpecMade};
+ghost use Rattle.model.specs.Book.{components, facilities, versions};
 ghost use Rattle.sets.specs.Tests.{if_then_else_};
 ghost use Rattle.sets.specs.Sets.{bit};
 ghost use Rattle.language.specs.Steps.{Each, FacilityStep};
 ghost use Rattle.language.specs.Asked.{SpecBody, SpecEnds, SpecStep, SpecWith, specBody, specStart, specState};
 ghost use Rattle.language.specs.Entering.{Enters, Kept};
-ghost use Rattle.text.specs.Language.{ahead, comma, imp, listOf, name, namesUpTo, requirements, semicolon, specVersion, want};
+ghost use Rattle.text.specs.Language.{add-spec, ahead, comma, imp, listOf, name, namesUpTo, requirements, semicolon, specVersion, want};
 ghost use Rattle.text.specs.Tokens.{mark};
 ghost use Rattle.words.specs.Reading.{part};
 ghost use Rattle.language.specs.Readers.{Answers, Any, Got, PartOf, Span, Told, anyWord, keyAt, keyNumber};
@@ -441,4 +442,78 @@ fn take_spec_body(vers: &mut [u8], facs: &mut [u8], text: &[u8], at: usize, room
     }
     let e = v.end;
     ended(v, want_key(text, e, END))
+}
+
+// What "spec" asks for, if it is of the language (`there`): by the numbers in the tables with its new names, if there was room for them.
+pub struct SpecRequest {
+    pub there: bool,
+    pub end: usize,
+    pub component: usize,
+    pub provided: u64,
+    pub versions: requests::Sets,
+    pub standard: usize,
+    pub room: bool,
+}
+
+fn no_spec_request() -> SpecRequest
+    ensures { λ r. ⌜ r .there ≡ false ⌝ }
+{
+    SpecRequest {
+        there: false,
+        end: 0,
+        component: 0,
+        provided: 0,
+        versions: requests::no_sets(),
+        standard: 0,
+        room: true,
+    }
+}
+
+fn spec_request(c: Taken, p: Facilities, v: SpecVersions) -> SpecRequest
+    ensures { λ r. ⌜ SpecMade (c .number) (c .room) (p .set) v r ⌝ }
+{
+    let versions = v.sets;
+    SpecRequest {
+        there: true,
+        end: v.end,
+        component: c.number,
+        provided: p.set,
+        versions: versions,
+        standard: v.standard,
+        room: c.room & (v.vers & v.facs),
+    }
+}
+
+// add-spec = "spec" cn "provides" [facs] ";" ["std"] vn ["requires" facs] {";" ["std"] vn ["requires" facs]} "end", from behind "spec".
+// The names are put into the tables that are lent: the caller throws these away where there was no room, or the command is refused.
+pub fn read_spec(comps: &mut [u8], vers: &mut [u8], facs: &mut [u8], text: &[u8], at: usize) -> SpecRequest
+    requires { ⌜ Kept components (now comps) ⌝ }
+    requires { ⌜ Kept versions (now vers) ⌝ }
+    requires { ⌜ Kept facilities (now facs) ⌝ }
+    requires { ⌜ at ≤ length (now text) ⌝ }
+    ensures { λ r. ⌜ Kept components (now (comps .exit)) ⌝ }
+    ensures { λ r. ⌜ Kept versions (now (vers .exit)) ⌝ }
+    ensures { λ r. ⌜ Kept facilities (now (facs .exit)) ⌝ }
+    ensures { λ r. ⌜ ((i : List ℕ) → Answers add-spec (SpecAsked (tablesOf (now (comps .entry)) (now (vers .entry)) (now (facs .entry)) i) (tablesOf (now (comps .exit)) (now (vers .exit)) (now (facs .exit)) i) r) (now (text .entry)) at (r .there) (r .end)) ⌝ }
+{
+    let c = take_name(comps, 32, text, at);
+    if !c.there {
+        return no_spec_request();
+    }
+    let a = c.end;
+    let k = want_key(text, a, PROVIDES);
+    if !k.there {
+        return no_spec_request();
+    }
+    let b = k.end;
+    let p = take_provided(facs, text, b);
+    if !p.there {
+        return no_spec_request();
+    }
+    let e = p.end;
+    let v = take_spec_body(vers, facs, text, e, p.room);
+    if !v.there {
+        return no_spec_request();
+    }
+    spec_request(c, p, v)
 }

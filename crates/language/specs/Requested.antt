@@ -1,0 +1,50 @@
+-- What the readers of the adding commands answer: the command that was read, and its request by the numbers in the tables with its new
+-- names.
+use mathlib.Core.Bool.{Bool, true}
+use mathlib.Core.List.{List}
+use mathlib.Core.Path.{_≡_}
+use Prim.Native.Nat.{ℕ}
+use Rattle.model.specs.Book.{facilities}
+use Rattle.model.specs.Commands.{ADD-SPEC, Command}
+use Rattle.model.specs.Lists.{setOf}
+use Rattle.model.specs.Questions.{eachBelow}
+use Rattle.requests.specs.Said.{setsOf}
+use Rattle.requests.specs.Views.{setsView}
+use Rattle.sets.specs.Sets.{bit}
+use Rattle.sets.specs.Tests.{_&_}
+use Rattle.text.specs.Language.{Name, SPEC, Said}
+use Rattle.text.specs.Tables.{Tables, entered, fits, specNames, specNumbered}
+use Rattle.language.specs.declared.SpecRequest.{SpecRequest}
+use Rattle.language.specs.declared.SpecVersions.{SpecVersions}
+
+-- ---- "spec"
+
+-- the command k, by numbers, is what r holds
+pub record SpecAsks (k : Command) (r : SpecRequest) : Type 0 where
+  pub facs : List ℕ
+  pub list : List (ℕ × List ℕ)
+  pub is : k ≡ ADD-SPEC (r .component) facs list (r .standard)
+  pub below : eachBelow facilities facs ≡ true
+  pub provided : setOf facs ≡ bit (r .provided)
+  pub versions : setsView (r .versions) ≡ setsOf list
+
+-- The command x was read: r says whether there is a place for each new name; and if there is, t′ is the tables with them, and r holds
+-- the command by its numbers in these.
+pub record SpecAsked (t t′ : Tables) (r : SpecRequest) (x : Said) : Type 0 where
+  pub c : Name
+  pub ps : List Name
+  pub vs : List (Name × List Name)
+  pub s : Name
+  pub is : x ≡ SPEC c ps vs s
+  pub room : r .room ≡ fits (entered t (specNames c ps vs))
+  pub tables : r .room ≡ true → t′ ≡ entered t (specNames c ps vs)
+  pub asks : r .room ≡ true → SpecAsks (specNumbered t′ c ps vs s) r
+
+pub record SpecMade (number : ℕ) (placed : Bool) (provided : ℕ) (v : SpecVersions) (r : SpecRequest) : Type 0 where
+  pub there : r .there ≡ true
+  pub end : r .end ≡ v .end
+  pub component : r .component ≡ number
+  pub set : r .provided ≡ provided
+  pub versions : r .versions ≡ v .sets
+  pub standard : r .standard ≡ v .standard
+  pub room : r .room ≡ (placed & (v .vers & v .facs))

@@ -2,6 +2,7 @@ pub mod Readers
 pub mod Entering
 pub mod Steps
 pub mod Asked
+pub mod ModSteps
 pub mod Requested
 pub mod Growth
 pub mod TokenLaws
@@ -13,3 +14,5 @@ pub mod FacilityLaws
 pub mod SpecLaws
 pub mod ReaderLaws
 pub mod SpecRequestLaws
+pub mod FourLaws
+pub mod ModLaws

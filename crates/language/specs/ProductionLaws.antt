@@ -43,7 +43,7 @@ unfolding keyAt key nameAt keywords bytes
 std-key = refl
 
 -- an answer that is told by its flag and its end
-at-end : {A : Type 0} {p : Reader A} {R : A → Type 0} {t : Text} {at z e : ℕ} {there : Bool} → there ≡ true → e ≡ z → Answers p R t at true z
+pub at-end : {A : Type 0} {p : Reader A} {R : A → Type 0} {t : Text} {at z e : ℕ} {there : Bool} → there ≡ true → e ≡ z → Answers p R t at true z
     → Answers p R t at there e
 at-end {p = p} {R = R} {t = t} {at = at} {z = z} {e = e} y q a =
     subst (λ (b : Bool). Answers p R t at b e) (sym y) (subst (λ (i : ℕ). Answers p R t at true i) (sym q) a)

@@ -5,15 +5,17 @@ use mathlib.Core.List.{List}
 use mathlib.Core.Path.{_≡_}
 use Prim.Native.Nat.{ℕ}
 use Rattle.model.specs.Book.{facilities}
-use Rattle.model.specs.Commands.{ADD-SPEC, Command}
+use Rattle.model.specs.Commands.{ADD-MOD, ADD-SPEC, Command}
 use Rattle.model.specs.Lists.{setOf}
 use Rattle.model.specs.Questions.{eachBelow}
-use Rattle.requests.specs.Said.{setsOf}
-use Rattle.requests.specs.Views.{setsView}
+use Rattle.requests.specs.Said.{numbersOf, setsOf}
+use Rattle.requests.specs.Views.{numbersView, setsView}
 use Rattle.sets.specs.Sets.{bit}
 use Rattle.sets.specs.Tests.{_&_}
-use Rattle.text.specs.Language.{Name, SPEC, Said}
-use Rattle.text.specs.Tables.{Tables, entered, fits, specNames, specNumbered}
+use Rattle.text.specs.Language.{MOD, Name, SPEC, Said}
+use Rattle.text.specs.Tables.{Tables, entered, fits, modNames, modNumbered, specNames, specNumbered}
+use Rattle.language.specs.declared.ModRequest.{ModRequest}
+use Rattle.language.specs.declared.ModVersions.{ModVersions}
 use Rattle.language.specs.declared.SpecRequest.{SpecRequest}
 use Rattle.language.specs.declared.SpecVersions.{SpecVersions}
 
@@ -48,3 +50,25 @@ pub record SpecMade (number : ℕ) (placed : Bool) (provided : ℕ) (v : SpecVer
   pub versions : r .versions ≡ v .sets
   pub standard : r .standard ≡ v .standard
   pub room : r .room ≡ (placed & (v .vers & v .facs))
+
+-- ---- "mod"
+
+pub record ModAsks (k : Command) (r : ModRequest) : Type 0 where
+  pub list : List (ℕ × ℕ)
+  pub is : k ≡ ADD-MOD (r .component) list
+  pub versions : numbersView (r .versions) ≡ numbersOf list
+
+pub record ModAsked (t t′ : Tables) (r : ModRequest) (x : Said) : Type 0 where
+  pub c : Name
+  pub is : List (Name × Name)
+  pub said : x ≡ MOD c is
+  pub room : r .room ≡ fits (entered t (modNames c is))
+  pub tables : r .room ≡ true → t′ ≡ entered t (modNames c is)
+  pub asks : r .room ≡ true → ModAsks (modNumbered t′ c is) r
+
+pub record ModMade (number : ℕ) (placed : Bool) (v : ModVersions) (z : ℕ) (r : ModRequest) : Type 0 where
+  pub there : r .there ≡ true
+  pub end : r .end ≡ z
+  pub component : r .component ≡ number
+  pub versions : r .versions ≡ v .numbers
+  pub room : r .room ≡ (placed & (v .vers & v .impls))

@@ -6,14 +6,15 @@ ghost use Prim.Native.Nat.{ℕ, _+_, _<_, _≤_};
 ghost use lib.ListN.{length};
 ghost use Rattle.text.specs.Bytes.{nameWord, short};
 ghost use Rattle.names.specs.Stored.{tableOf, tablesOf};
-ghost use Rattle.language.specs.Requested.{SpecAsked, SpecMade};
-ghost use Rattle.model.specs.Book.{components, facilities, versions};
+ghost use Rattle.language.specs.Requested.{SpecAsked, SpecMade, ModAsked, ModMade};
+ghost use Rattle.language.specs.ModSteps.{ModStep, ModWith, modStart, modState};
+ghost use Rattle.model.specs.Book.{components, facilities, implementations, versions};
 ghost use Rattle.sets.specs.Tests.{if_then_else_};
 ghost use Rattle.sets.specs.Sets.{bit};
 ghost use Rattle.language.specs.Steps.{Each, FacilityStep};
 ghost use Rattle.language.specs.Asked.{SpecBody, SpecEnds, SpecStep, SpecWith, specBody, specStart, specState};
 ghost use Rattle.language.specs.Entering.{Enters, Kept};
-ghost use Rattle.text.specs.Language.{add-spec, ahead, comma, imp, listOf, name, namesUpTo, requirements, semicolon, specVersion, want};
+ghost use Rattle.text.specs.Language.{add-mod, add-spec, ahead, comma, imp, listOf, modVersion, name, namesUpTo, requirements, semicolon, specVersion, want};
 ghost use Rattle.text.specs.Tokens.{mark};
 ghost use Rattle.words.specs.Reading.{part};
 ghost use Rattle.language.specs.Readers.{Answers, Any, Got, PartOf, Span, Told, anyWord, keyAt, keyNumber};
@@ -516,4 +517,163 @@ pub fn read_spec(comps: &mut [u8], vers: &mut [u8], facs: &mut [u8], text: &[u8]
         return no_spec_request();
     }
     spec_request(c, p, v)
+}
+
+// ---- a module
+
+// Versions with their implementations, if `there`, and whether there was room for the names of versions (`vers`) and for the
+// implementations (`impls`).
+pub struct ModVersions {
+    pub there: bool,
+    pub end: usize,
+    pub numbers: requests::Numbers,
+    pub vers: bool,
+    pub impls: bool,
+}
+
+// The version v with its implementation i.
+fn with_mod_version(g: ModVersions, v: Taken, i: Taken) -> ModVersions
+    ensures { λ r. ⌜ ModWith g (v .number) (v .room) (i .number) (i .room) (i .end) r ⌝ }
+{
+    let numbers = g.numbers;
+    ModVersions {
+        there: true,
+        end: i.end,
+        numbers: requests::with_number(numbers, v.number, i.number),
+        vers: g.vers & v.room,
+        impls: g.impls & i.room,
+    }
+}
+
+// vn "impl" imp
+fn take_mod_version(vers: &mut [u8], impls: &mut [u8], text: &[u8], at: usize, g: ModVersions) -> ModVersions
+    requires { ⌜ Kept versions (now vers) ⌝ }
+    requires { ⌜ Kept implementations (now impls) ⌝ }
+    requires { ⌜ at ≤ length (now text) ⌝ }
+    ensures { λ r. ⌜ Kept versions (now (vers .exit)) ⌝ }
+    ensures { λ r. ⌜ Kept implementations (now (impls .exit)) ⌝ }
+    ensures { λ r. ⌜ Answers modVersion (ModStep (modState (now (vers .entry)) (now (impls .entry)) g) (modState (now (vers .exit)) (now (impls .exit)) r)) (now (text .entry)) at (r .there) (r .end) ⌝ }
+{
+    let mut wrong = g;
+    wrong.there = false;
+    let v = take_name(vers, 64, text, at);
+    if !v.there {
+        return wrong;
+    }
+    let a = v.end;
+    let k = want_key(text, a, IMPL);
+    if !k.there {
+        return wrong;
+    }
+    let b = k.end;
+    let i = take_imp(impls, 256, text, b);
+    if !i.there {
+        return wrong;
+    }
+    with_mod_version(g, v, i)
+}
+
+// vn "impl" imp {";" vn "impl" imp}
+fn take_mod_versions(vers: &mut [u8], impls: &mut [u8], text: &[u8], at: usize, start: ModVersions) -> ModVersions
+    requires { ⌜ Kept versions (now vers) ⌝ }
+    requires { ⌜ Kept implementations (now impls) ⌝ }
+    requires { ⌜ at ≤ length (now text) ⌝ }
+    ensures { λ r. ⌜ Kept versions (now (vers .exit)) ⌝ }
+    ensures { λ r. ⌜ Kept implementations (now (impls .exit)) ⌝ }
+    ensures { λ r. ⌜ Answers (listOf semicolon modVersion) (Each ModStep (modState (now (vers .entry)) (now (impls .entry)) start) (modState (now (vers .exit)) (now (impls .exit)) r)) (now (text .entry)) at (r .there) (r .end) ⌝ }
+{
+    let mut i = at;
+    let mut g = start;
+    loop {
+        let n = take_mod_version(vers, impls, text, i, g);
+        if !n.there {
+            return n;
+        }
+        let e = n.end;
+        let m = want_mark(text, e, 59);
+        if !m.there {
+            return n;
+        }
+        i = m.end;
+        g = n;
+    }
+}
+
+fn no_mod_versions() -> ModVersions
+    ensures { λ r. ⌜ ((v i : List ℕ) → modState v i r ≡ modStart (tableOf versions v) (tableOf implementations i)) ⌝ }
+{
+    ModVersions {
+        there: true,
+        end: 0,
+        numbers: requests::no_numbers(),
+        vers: true,
+        impls: true,
+    }
+}
+
+// What "mod" asks for.
+pub struct ModRequest {
+    pub there: bool,
+    pub end: usize,
+    pub component: usize,
+    pub versions: requests::Numbers,
+    pub room: bool,
+}
+
+fn no_mod_request() -> ModRequest
+    ensures { λ r. ⌜ r .there ≡ false ⌝ }
+{
+    ModRequest {
+        there: false,
+        end: 0,
+        component: 0,
+        versions: requests::no_numbers(),
+        room: true,
+    }
+}
+
+fn mod_request(c: Taken, v: ModVersions, end: usize) -> ModRequest
+    ensures { λ r. ⌜ ModMade (c .number) (c .room) v end r ⌝ }
+{
+    let versions = v.numbers;
+    ModRequest {
+        there: true,
+        end: end,
+        component: c.number,
+        versions: versions,
+        room: c.room & (v.vers & v.impls),
+    }
+}
+
+// add-mod = "mod" cn ";" vn "impl" imp {";" vn "impl" imp} "end", from behind "mod".
+pub fn read_mod(comps: &mut [u8], vers: &mut [u8], impls: &mut [u8], text: &[u8], at: usize) -> ModRequest
+    requires { ⌜ Kept components (now comps) ⌝ }
+    requires { ⌜ Kept versions (now vers) ⌝ }
+    requires { ⌜ Kept implementations (now impls) ⌝ }
+    requires { ⌜ at ≤ length (now text) ⌝ }
+    ensures { λ r. ⌜ Kept components (now (comps .exit)) ⌝ }
+    ensures { λ r. ⌜ Kept versions (now (vers .exit)) ⌝ }
+    ensures { λ r. ⌜ Kept implementations (now (impls .exit)) ⌝ }
+    ensures { λ r. ⌜ ((f : List ℕ) → Answers add-mod (ModAsked (tablesOf (now (comps .entry)) (now (vers .entry)) f (now (impls .entry))) (tablesOf (now (comps .exit)) (now (vers .exit)) f (now (impls .exit))) r) (now (text .entry)) at (r .there) (r .end)) ⌝ }
+{
+    let c = take_name(comps, 32, text, at);
+    if !c.there {
+        return no_mod_request();
+    }
+    let a = c.end;
+    let k = want_mark(text, a, 59);
+    if !k.there {
+        return no_mod_request();
+    }
+    let b = k.end;
+    let v = take_mod_versions(vers, impls, text, b, no_mod_versions());
+    if !v.there {
+        return no_mod_request();
+    }
+    let e = v.end;
+    let m = want_key(text, e, END);
+    if !m.there {
+        return no_mod_request();
+    }
+    mod_request(c, v, m.end)
 }

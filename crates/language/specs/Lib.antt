@@ -3,6 +3,7 @@ pub mod Entering
 pub mod Steps
 pub mod Asked
 pub mod ModSteps
+pub mod MemberSteps
 pub mod Requested
 pub mod Growth
 pub mod TokenLaws
@@ -16,3 +17,5 @@ pub mod ReaderLaws
 pub mod SpecRequestLaws
 pub mod FourLaws
 pub mod ModLaws
+pub mod PairLaws
+pub mod MemberLaws

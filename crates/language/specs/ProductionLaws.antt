@@ -65,7 +65,7 @@ pub pass-inside : (k : Token) (t : Text) (at e : ℕ) (b : Bool) → Got (ahead 
 pass-inside k t at e b g = g .inside
 
 -- what was passed
-passed : (k : Token) (t : Text) (at e : ℕ) (b : Bool) → Got (ahead k) (Told b) t at e → ahead k (drop at t) ≡ some (b, drop e t)
+pub passed : (k : Token) (t : Text) (at e : ℕ) (b : Bool) → Got (ahead k) (Told b) t at e → ahead k (drop at t) ≡ some (b, drop e t)
 passed k t at e b g = g .is ∙ ap (λ (x : Bool). some (x, drop e t)) (g .took .is)
 
 pub there-inside : {A : Type 0} (p : Reader A) (R : A → Type 0) (t : Text) (at e : ℕ) (there : Bool) → Answers p R t at there e

@@ -4,16 +4,19 @@ use mathlib.Core.Bool.{Bool, true}
 use mathlib.Core.List.{List}
 use mathlib.Core.Path.{_≡_}
 use Prim.Native.Nat.{ℕ}
-use Rattle.model.specs.Book.{facilities}
-use Rattle.model.specs.Commands.{ADD-MOD, ADD-SPEC, Command}
+use Rattle.model.specs.Book.{components, facilities, versions}
+use Rattle.model.specs.Commands.{ADD-MOD, ADD-MODVAR, ADD-SPEC, Command}
 use Rattle.model.specs.Lists.{setOf}
 use Rattle.model.specs.Questions.{eachBelow}
 use Rattle.requests.specs.Said.{numbersOf, setsOf}
 use Rattle.requests.specs.Views.{numbersView, setsView}
 use Rattle.sets.specs.Sets.{bit}
 use Rattle.sets.specs.Tests.{_&_}
-use Rattle.text.specs.Language.{MOD, Name, SPEC, Said}
-use Rattle.text.specs.Tables.{Tables, entered, fits, modNames, modNumbered, specNames, specNumbered}
+use Rattle.text.specs.Language.{MOD, MODVAR, Name, SPEC, Said}
+use Rattle.text.specs.Tables.{Table, Tables, entered, fits, modNames, modNumbered, modvarNames, modvarNumbered, specNames, specNumbered}
+use Rattle.language.specs.Entering.{Enters}
+use Rattle.language.specs.declared.PairTaken.{PairTaken}
+use Rattle.language.specs.declared.ModvarRequest.{ModvarRequest}
 use Rattle.language.specs.declared.ModRequest.{ModRequest}
 use Rattle.language.specs.declared.ModVersions.{ModVersions}
 use Rattle.language.specs.declared.SpecRequest.{SpecRequest}
@@ -72,3 +75,43 @@ pub record ModMade (number : ℕ) (placed : Bool) (v : ModVersions) (z : ℕ) (r
   pub component : r .component ≡ number
   pub versions : r .versions ≡ v .numbers
   pub room : r .room ≡ (placed & (v .vers & v .impls))
+
+-- ---- "modvar"
+
+-- component and version of a pair, put into their tables
+pub record PairEnters (c c′ v v′ : Table) (r : PairTaken) (x : Name × Name) : Type 0 where
+  pub component : Enters components c c′ (r .component) (r .comps) (x .0)
+  pub version : Enters versions v v′ (r .version) (r .vers) (x .1)
+
+pub record PairMade (number : ℕ) (placed : Bool) (version : ℕ) (placed′ : Bool) (z : ℕ) (r : PairTaken) : Type 0 where
+  pub there : r .there ≡ true
+  pub end : r .end ≡ z
+  pub component : r .component ≡ number
+  pub comps : r .comps ≡ placed
+  pub version-is : r .version ≡ version
+  pub vers : r .vers ≡ placed′
+
+pub record ModvarAsks (k : Command) (r : ModvarRequest) : Type 0 where
+  pub facs : List ℕ
+  pub is : k ≡ ADD-MODVAR (r .component) (r .version) facs (r .implementation)
+  pub below : eachBelow facilities facs ≡ true
+  pub required : setOf facs ≡ bit (r .required)
+
+pub record ModvarAsked (t t′ : Tables) (r : ModvarRequest) (x : Said) : Type 0 where
+  pub c : Name
+  pub v : Name
+  pub rs : List Name
+  pub i : Name
+  pub said : x ≡ MODVAR c v rs i
+  pub room : r .room ≡ fits (entered t (modvarNames c v rs i))
+  pub tables : r .room ≡ true → t′ ≡ entered t (modvarNames c v rs i)
+  pub asks : r .room ≡ true → ModvarAsks (modvarNumbered t′ c v rs i) r
+
+pub record ModvarMade (p : PairTaken) (set : ℕ) (fit : Bool) (impl : ℕ) (placed : Bool) (z : ℕ) (r : ModvarRequest) : Type 0 where
+  pub there : r .there ≡ true
+  pub end : r .end ≡ z
+  pub component : r .component ≡ p .component
+  pub version : r .version ≡ p .version
+  pub required : r .required ≡ set
+  pub implementation : r .implementation ≡ impl
+  pub room : r .room ≡ (p .comps & (p .vers & (fit & placed)))

@@ -6,7 +6,8 @@ ghost use Prim.Native.Nat.{ℕ, _+_, _<_, _≤_};
 ghost use lib.ListN.{length};
 ghost use Rattle.text.specs.Bytes.{nameWord, short};
 ghost use Rattle.names.specs.Stored.{tableOf, tablesOf};
-ghost use Rattle.language.specs.Requested.{SpecAsked, SpecMade, ModAsked, ModMade};
+ghost use Rattle.language.specs.Requested.{SpecAsked, SpecMade, ModAsked, ModMade, ModvarAsked, ModvarMade, PairEnters, PairMade};
+ghost use Rattle.language.specs.MemberSteps.{MemberStep, MemberWith, memberStart, memberState};
 ghost use Rattle.language.specs.ModSteps.{ModStep, ModWith, modStart, modState};
 ghost use Rattle.model.specs.Book.{components, facilities, implementations, versions};
 ghost use Rattle.sets.specs.Tests.{if_then_else_};
@@ -14,7 +15,7 @@ ghost use Rattle.sets.specs.Sets.{bit};
 ghost use Rattle.language.specs.Steps.{Each, FacilityStep};
 ghost use Rattle.language.specs.Asked.{SpecBody, SpecEnds, SpecStep, SpecWith, specBody, specStart, specState};
 ghost use Rattle.language.specs.Entering.{Enters, Kept};
-ghost use Rattle.text.specs.Language.{add-mod, add-spec, ahead, comma, imp, listOf, modVersion, name, namesUpTo, requirements, semicolon, specVersion, want};
+ghost use Rattle.text.specs.Language.{add-mod, add-modvar, add-spec, ahead, comma, compo, imp, listOf, modVersion, name, namesUpTo, pair, requirements, semicolon, specVersion, want};
 ghost use Rattle.text.specs.Tokens.{mark};
 ghost use Rattle.words.specs.Reading.{part};
 ghost use Rattle.language.specs.Readers.{Answers, Any, Got, PartOf, Span, Told, anyWord, keyAt, keyNumber};
@@ -676,4 +677,228 @@ pub fn read_mod(comps: &mut [u8], vers: &mut [u8], impls: &mut [u8], text: &[u8]
         return no_mod_request();
     }
     mod_request(c, v, m.end)
+}
+
+// ---- a component with a version
+
+// A component and a version, if `there`: their numbers, and whether there was room for each.
+pub struct PairTaken {
+    pub there: bool,
+    pub end: usize,
+    pub component: usize,
+    pub version: usize,
+    pub comps: bool,
+    pub vers: bool,
+}
+
+fn pair_taken(c: Taken, v: Taken) -> PairTaken
+    ensures { λ r. ⌜ PairMade (c .number) (c .room) (v .number) (v .room) (v .end) r ⌝ }
+{
+    PairTaken {
+        there: true,
+        end: v.end,
+        component: c.number,
+        version: v.number,
+        comps: c.room,
+        vers: v.room,
+    }
+}
+
+// cn "." vn
+fn take_pair(comps: &mut [u8], vers: &mut [u8], text: &[u8], at: usize) -> PairTaken
+    requires { ⌜ Kept components (now comps) ⌝ }
+    requires { ⌜ Kept versions (now vers) ⌝ }
+    requires { ⌜ at ≤ length (now text) ⌝ }
+    ensures { λ r. ⌜ Kept components (now (comps .exit)) ⌝ }
+    ensures { λ r. ⌜ Kept versions (now (vers .exit)) ⌝ }
+    ensures { λ r. ⌜ Answers pair (PairEnters (tableOf components (now (comps .entry))) (tableOf components (now (comps .exit))) (tableOf versions (now (vers .entry))) (tableOf versions (now (vers .exit))) r) (now (text .entry)) at (r .there) (r .end) ⌝ }
+{
+    let wrong = PairTaken {
+        there: false,
+        end: at,
+        component: 0,
+        version: 0,
+        comps: true,
+        vers: true,
+    };
+    let c = take_name(comps, 32, text, at);
+    if !c.there {
+        return wrong;
+    }
+    let a = c.end;
+    let k = want_mark(text, a, 46);
+    if !k.there {
+        return wrong;
+    }
+    let b = k.end;
+    let v = take_name(vers, 64, text, b);
+    if !v.there {
+        return wrong;
+    }
+    pair_taken(c, v)
+}
+
+// What "modvar" asks for.
+pub struct ModvarRequest {
+    pub there: bool,
+    pub end: usize,
+    pub component: usize,
+    pub version: usize,
+    pub required: u64,
+    pub implementation: usize,
+    pub room: bool,
+}
+
+fn no_modvar_request() -> ModvarRequest
+    ensures { λ r. ⌜ r .there ≡ false ⌝ }
+{
+    ModvarRequest {
+        there: false,
+        end: 0,
+        component: 0,
+        version: 0,
+        required: 0,
+        implementation: 0,
+        room: true,
+    }
+}
+
+fn modvar_request(p: PairTaken, q: Facilities, i: Taken) -> ModvarRequest
+    ensures { λ r. ⌜ ModvarMade p (q .set) (q .room) (i .number) (i .room) (i .end) r ⌝ }
+{
+    ModvarRequest {
+        there: true,
+        end: i.end,
+        component: p.component,
+        version: p.version,
+        required: q.set,
+        implementation: i.number,
+        room: p.comps & (p.vers & (q.room & i.room)),
+    }
+}
+
+// add-modvar = "modvar" cn "." vn ["requires" facs] "impl" imp, from behind "modvar".
+pub fn read_modvar(comps: &mut [u8], vers: &mut [u8], facs: &mut [u8], impls: &mut [u8], text: &[u8], at: usize) -> ModvarRequest
+    requires { ⌜ Kept components (now comps) ⌝ }
+    requires { ⌜ Kept versions (now vers) ⌝ }
+    requires { ⌜ Kept facilities (now facs) ⌝ }
+    requires { ⌜ Kept implementations (now impls) ⌝ }
+    requires { ⌜ at ≤ length (now text) ⌝ }
+    ensures { λ r. ⌜ Kept components (now (comps .exit)) ⌝ }
+    ensures { λ r. ⌜ Kept versions (now (vers .exit)) ⌝ }
+    ensures { λ r. ⌜ Kept facilities (now (facs .exit)) ⌝ }
+    ensures { λ r. ⌜ Kept implementations (now (impls .exit)) ⌝ }
+    ensures { λ r. ⌜ Answers add-modvar (ModvarAsked (tablesOf (now (comps .entry)) (now (vers .entry)) (now (facs .entry)) (now (impls .entry))) (tablesOf (now (comps .exit)) (now (vers .exit)) (now (facs .exit)) (now (impls .exit))) r) (now (text .entry)) at (r .there) (r .end) ⌝ }
+{
+    let p = take_pair(comps, vers, text, at);
+    if !p.there {
+        return no_modvar_request();
+    }
+    let a = p.end;
+    let q = take_requirements(facs, text, a, true);
+    if !q.there {
+        return no_modvar_request();
+    }
+    let b = q.end;
+    let k = want_key(text, b, IMPL);
+    if !k.there {
+        return no_modvar_request();
+    }
+    let e = k.end;
+    let i = take_imp(impls, 256, text, e);
+    if !i.there {
+        return no_modvar_request();
+    }
+    modvar_request(p, q, i)
+}
+
+// ---- a composition
+
+// Members, if `there`, and whether there was room for the names of components (`comps`) and of versions (`vers`).
+pub struct Members {
+    pub there: bool,
+    pub end: usize,
+    pub composition: requests::Composition,
+    pub comps: bool,
+    pub vers: bool,
+}
+
+// The member c, with its version or LEFT_OUT.
+fn with_named_member(g: Members, c: Taken, version: usize, room: bool, end: usize) -> Members
+    ensures { λ r. ⌜ MemberWith g (c .number) (c .room) version room end r ⌝ }
+{
+    let composition = g.composition;
+    Members {
+        there: true,
+        end: end,
+        composition: requests::with_member(composition, c.number, version),
+        comps: g.comps & c.room,
+        vers: g.vers & room,
+    }
+}
+
+// cn ["." vn]
+fn take_member(comps: &mut [u8], vers: &mut [u8], text: &[u8], at: usize, g: Members) -> Members
+    requires { ⌜ Kept components (now comps) ⌝ }
+    requires { ⌜ Kept versions (now vers) ⌝ }
+    requires { ⌜ at ≤ length (now text) ⌝ }
+    ensures { λ r. ⌜ Kept components (now (comps .exit)) ⌝ }
+    ensures { λ r. ⌜ Kept versions (now (vers .exit)) ⌝ }
+    ensures { λ r. ⌜ Answers compo (MemberStep (memberState (now (comps .entry)) (now (vers .entry)) g) (memberState (now (comps .exit)) (now (vers .exit)) r)) (now (text .entry)) at (r .there) (r .end) ⌝ }
+{
+    let mut wrong = g;
+    wrong.there = false;
+    let c = take_name(comps, 32, text, at);
+    if !c.there {
+        return wrong;
+    }
+    let a = c.end;
+    let d = pass_mark(text, a, 46);
+    let b = d.end;
+    if !d.there {
+        return with_named_member(g, c, requests::LEFT_OUT, true, b);
+    }
+    let v = take_name(vers, 64, text, b);
+    if !v.there {
+        return wrong;
+    }
+    with_named_member(g, c, v.number, v.room, v.end)
+}
+
+// compos = cn ["." vn] {"," cn ["." vn]}
+fn take_members(comps: &mut [u8], vers: &mut [u8], text: &[u8], at: usize, start: Members) -> Members
+    requires { ⌜ Kept components (now comps) ⌝ }
+    requires { ⌜ Kept versions (now vers) ⌝ }
+    requires { ⌜ at ≤ length (now text) ⌝ }
+    ensures { λ r. ⌜ Kept components (now (comps .exit)) ⌝ }
+    ensures { λ r. ⌜ Kept versions (now (vers .exit)) ⌝ }
+    ensures { λ r. ⌜ Answers (listOf comma compo) (Each MemberStep (memberState (now (comps .entry)) (now (vers .entry)) start) (memberState (now (comps .exit)) (now (vers .exit)) r)) (now (text .entry)) at (r .there) (r .end) ⌝ }
+{
+    let mut i = at;
+    let mut g = start;
+    loop {
+        let n = take_member(comps, vers, text, i, g);
+        if !n.there {
+            return n;
+        }
+        let e = n.end;
+        let m = want_mark(text, e, 44);
+        if !m.there {
+            return n;
+        }
+        i = m.end;
+        g = n;
+    }
+}
+
+fn no_named_members(comps: bool, vers: bool) -> Members
+    ensures { λ r. ⌜ ((c v : List ℕ) → memberState c v r ≡ memberStart (tableOf components c) (tableOf versions v) comps vers) ⌝ }
+{
+    Members {
+        there: true,
+        end: 0,
+        composition: requests::no_members(),
+        comps: comps,
+        vers: vers,
+    }
 }

@@ -4,6 +4,7 @@ pub mod Steps
 pub mod Asked
 pub mod ModSteps
 pub mod MemberSteps
+pub mod SysSteps
 pub mod Requested
 pub mod Growth
 pub mod TokenLaws
@@ -19,3 +20,5 @@ pub mod FourLaws
 pub mod ModLaws
 pub mod PairLaws
 pub mod MemberLaws
+pub mod SysvarLaws
+pub mod SysLaws

@@ -10,7 +10,8 @@ use native.Mathlib.Omega.{arith}
 use borrow.Author.Tests.{not-false, not-true}
 use lib.ListN.{drop, length}
 use Rattle.model.specs.Book.{components, versions}
-use Rattle.model.specs.Maps.{andThen}
+use Rattle.model.specs.Maps.{andThen, optionMap}
+use Rattle.model.specs.Commands.{Members}
 use Rattle.names.specs.Stored.{tableOf}
 use Rattle.requests.specs.Gathered.{Gathered, gather, nothing}
 use Rattle.requests.specs.Said.{always, isVersionOrNone, itself, membersOf, membersStep, versionSaid}
@@ -19,15 +20,19 @@ use Rattle.requests.specs.declared.Composition.{Composition}
 use Rattle.sets.specs.TestLaws.{==-not, and-in, and-l, and-r, and-swap, and-true, if-false, if-true}
 use Rattle.sets.specs.Tests.{_&_, _==_, if_then_else_}
 use Rattle.text.specs.Bytes.{Text}
-use Rattle.text.specs.Language.{Name, _>>=_, ahead, compo, give, name, point, when}
-use Rattle.text.specs.Tables.{Table}
+use Rattle.text.specs.Language.{Name, NamedMembers, _>>=_, ahead, compo, give, name, point, when}
+use Rattle.text.specs.Tables.{Table, Tables, given, joined, memberNames, memberVersions, number}
+use Rattle.language.specs.FacilityLaws.{singles}
+use Rattle.language.specs.Growth.{Grows, Longer, NumberedAll, foldOn}
+use Rattle.language.specs.GrowthLaws.{enters-longer, enters-number, grows-each, grows-none, grows-one, longer-none, longer-same, numbered-all}
+use Rattle.language.specs.Steps.{Each}
 use Rattle.language.specs.Entering.{Enters}
 use Rattle.language.specs.MemberSteps.{MemberState, MemberStep, MemberWith, VersionTaken, memberStart, memberState}
 use Rattle.language.specs.ProductionLaws.{at-end, passed}
 use Rattle.language.specs.Readers.{Answers, Got, Told}
 use Rattle.language.specs.TakeLaws.{enters-small}
 use Rattle.language.specs.TokenLaws.{answer-no, answer-yes}
-use Rattle.language.specs.declared.Members.{Members}
+use Rattle.language.specs.declared.Members as held
 
 -- ---- cn ["." vn]
 
@@ -79,7 +84,7 @@ said-version : (k : ℕ) → k < versions → versionSaid k ≡ some k
 unfolding versionSaid
 said-version k h = if-false _ _ _ (==-not k 65535 (λ e. absurd (omega arith)))
 
-module _ (t : Text) (at a b : ℕ) (c₀ d₀ : Bool) (C C′ W : List ℕ) (g : Members) (j : ℕ) (placed : Bool) (r : Members)
+module _ (t : Text) (at a b : ℕ) (c₀ d₀ : Bool) (C C′ W : List ℕ) (g : held.Members) (j : ℕ) (placed : Bool) (r : held.Members)
     (n : Answers name (Enters components (tableOf components C) (tableOf components C′) j placed) t at c₀ a) (y : notᵇ c₀ ≡ false)
     (d : Got (ahead point) (Told d₀) t a b) where
   pub member-alone : notᵇ d₀ ≡ true → MemberWith g j placed 65535 true b r
@@ -128,3 +133,86 @@ member-start g a b e c v = ap (λ (z : Gathered (Option ℕ)). record {
   compsFit = a;
   versFit = b;
 }) e
+
+-- ---- tables and room
+
+given-all : (xs : List (Name × Option Name)) → joined (map (λ x. given (x .1 ∷ [])) xs) ≡ given (map (λ m. m .1) xs)
+unfolding joined given
+given-all [] = refl
+given-all (x ∷ xs) = by (x .1) (given-all xs)
+  where
+    by : (o : Option Name) → joined (map (λ x. given (x .1 ∷ [])) xs) ≡ given (map (λ m. m .1) xs)
+        → given (o ∷ []) ++ joined (map (λ x. given (x .1 ∷ [])) xs) ≡ given (o ∷ map (λ m. m .1) xs)
+    by none e = e
+    by (some w) e = ap (λ (ws : List Name). w ∷ ws) e
+
+pub member-comps : (s s′ : MemberState) (xs : NamedMembers) → length (s .comps) ≤ components → Each MemberStep s s′ xs
+    → Grows components (s .comps) (s′ .comps) (s .compsFit) (s′ .compsFit) (memberNames xs)
+unfolding memberNames
+member-comps s s′ xs h e =
+    subst (Grows components (s .comps) (s′ .comps) (s .compsFit) (s′ .compsFit)) (singles (λ (x : Name × Option Name). x .0) xs)
+    (grows-each MemberStep components (λ s. s .comps) (λ s. s .compsFit) (λ x. x .0 ∷ [])
+    (λ s s′ x l f. grows-one components (s .comps) (s′ .comps) (f .number) (f .placed) (s .compsFit) (s′ .compsFit) (x .0) l (f .enters) (f .comps-fit))
+    s s′ xs h e)
+
+version-grow : (s s′ : MemberState) (version : Option ℕ) (o : Option Name) → length (s .vers) ≤ versions → VersionTaken s s′ version o
+    → Grows versions (s .vers) (s′ .vers) (s .versFit) (s′ .versFit) (given (o ∷ []))
+unfolding VersionTaken given
+version-grow s s′ version none h q =
+    subst (λ (u : Table). Grows versions (s .vers) u (s .versFit) (s′ .versFit) []) (sym (q .0))
+    (subst (λ (b : Bool). Grows versions (s .vers) (s .vers) (s .versFit) b []) (sym (q .1)) (grows-none versions (s .vers) (s .versFit) h))
+version-grow s s′ version (some w) h q =
+    grows-one versions (s .vers) (s′ .vers) (q .0) (q .1) (s .versFit) (s′ .versFit) w h (q .2) (q .3)
+
+pub member-vers : (s s′ : MemberState) (xs : NamedMembers) → length (s .vers) ≤ versions → Each MemberStep s s′ xs
+    → Grows versions (s .vers) (s′ .vers) (s .versFit) (s′ .versFit) (memberVersions xs)
+unfolding memberVersions
+member-vers s s′ xs h e =
+    subst (Grows versions (s .vers) (s′ .vers) (s .versFit) (s′ .versFit)) (given-all xs)
+    (grows-each MemberStep versions (λ s. s .vers) (λ s. s .versFit) (λ x. given (x .1 ∷ []))
+    (λ s s′ x l f. version-grow s s′ (f .version) (x .1) l (f .taken)) s s′ xs h e)
+
+-- ---- numbers
+
+abbrev pub memberTables : MemberState → Tables
+memberTables s = record { comps = s .comps; vers = s .vers; facs = []; impls = [] }
+
+abbrev pub memberNum : Tables → Name × Option Name → ℕ × Option ℕ
+memberNum u x = (number (u .comps) (x .0), optionMap (number (u .vers)) (x .1))
+
+version-number : (s s′ : MemberState) (version : Option ℕ) (o : Option Name) → VersionTaken s s′ version o → s′ .versFit ≡ true
+    → (s .versFit ≡ true) × Longer (s .vers) (s′ .vers) × ((u : Table) → Longer (s′ .vers) u → optionMap (number u) o ≡ version)
+unfolding VersionTaken optionMap
+version-number s s′ version none q y =
+    (sym (q .1) ∙ y, subst (Longer (s .vers)) (sym (q .0)) (longer-same (s .vers)), λ u l. sym (q .2))
+version-number s s′ version (some w) q y =
+    let v = sym (q .3) ∙ y in let b = and-r (s .versFit) (q .1) v in
+    (and-l (s .versFit) (q .1) v, enters-longer versions (s .vers) (s′ .vers) (q .0) (q .1) w (q .2) b,
+    λ u l. ap some (enters-number versions (s .vers) (s′ .vers) (q .0) (q .1) w (q .2) b u l) ∙ sym (q .4))
+
+pub member-all : (s s′ : MemberState) (xs : NamedMembers) → Each MemberStep s s′ xs → (s′ .compsFit & s′ .versFit) ≡ true
+    → NumberedAll memberTables (λ s. s .compsFit & s .versFit) (λ s. s .members) memberNum membersStep (λ y. true) s s′ xs
+member-all s s′ xs e y = numbered-all MemberStep memberTables (λ s. s .compsFit & s .versFit) (λ s. s .members) memberNum membersStep (λ y. true)
+    (λ s s′ x f o.
+    (let c = sym (f .comps-fit) ∙ and-l _ _ o in let a = and-r (s .compsFit) (f .placed) c in
+    let v = version-number s s′ (f .version) (x .1) (f .taken) (and-r _ _ o) in
+    record {
+      before = and-in _ _ (and-l (s .compsFit) (f .placed) c) (v .0);
+      value = (f .number, f .version);
+      is = λ u l. ap₂ (λ (k : ℕ) (j : Option ℕ). (k, j))
+          (enters-number components (s .comps) (s′ .comps) (f .number) (f .placed) (x .0) (f .enters) a (u .comps) (l .comps))
+          (v .2 (u .vers) (l .vers));
+      passes = refl;
+      adds = f .members;
+      later = record {
+        comps = enters-longer components (s .comps) (s′ .comps) (f .number) (f .placed) (x .0) (f .enters) a;
+        vers = v .1;
+        facs = longer-none _;
+        impls = longer-none _;
+      };
+    })) s s′ xs e y
+
+pub members-fold : (g : Gathered (Option ℕ)) (xs : Members) → foldOn membersStep g xs ≡ gather components isVersionOrNone always always itself g xs
+unfolding foldOn gather membersStep
+members-fold g [] = refl
+members-fold g (x ∷ xs) = members-fold _ xs

@@ -115,7 +115,7 @@ mod-start g e v i = ap (λ (z : Gathered ℕ). record {
 
 -- ---- what is read
 
-end-key : keyAt 3 ≡ key "end"
+pub end-key : keyAt 3 ≡ key "end"
 unfolding keyAt key nameAt keywords bytes
 end-key = refl
 

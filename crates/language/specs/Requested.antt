@@ -5,16 +5,18 @@ use mathlib.Core.List.{List}
 use mathlib.Core.Path.{_≡_}
 use Prim.Native.Nat.{ℕ}
 use Rattle.model.specs.Book.{components, facilities, versions}
-use Rattle.model.specs.Commands.{ADD-MOD, ADD-MODVAR, ADD-SPEC, Command}
+use Rattle.model.specs.Commands.{ADD-MOD, ADD-MODVAR, ADD-SPEC, ADD-SYSVAR, Command, Members}
 use Rattle.model.specs.Lists.{setOf}
 use Rattle.model.specs.Questions.{eachBelow}
-use Rattle.requests.specs.Said.{numbersOf, setsOf}
-use Rattle.requests.specs.Views.{numbersView, setsView}
+use Rattle.requests.specs.Said.{membersOf, numbersOf, setsOf}
+use Rattle.requests.specs.Views.{compositionView, numbersView, setsView}
 use Rattle.sets.specs.Sets.{bit}
 use Rattle.sets.specs.Tests.{_&_}
-use Rattle.text.specs.Language.{MOD, MODVAR, Name, SPEC, Said}
-use Rattle.text.specs.Tables.{Table, Tables, entered, fits, modNames, modNumbered, modvarNames, modvarNumbered, specNames, specNumbered}
+use Rattle.text.specs.Language.{MOD, MODVAR, Name, NamedMembers, SPEC, SYSVAR, Said}
+use Rattle.text.specs.Tables.{Table, Tables, entered, fits, modNames, modNumbered, modvarNames, modvarNumbered, specNames, specNumbered, sysvarNames, sysvarNumbered}
 use Rattle.language.specs.Entering.{Enters}
+use Rattle.language.specs.declared.Members as named
+use Rattle.language.specs.declared.SysvarRequest.{SysvarRequest}
 use Rattle.language.specs.declared.PairTaken.{PairTaken}
 use Rattle.language.specs.declared.ModvarRequest.{ModvarRequest}
 use Rattle.language.specs.declared.ModRequest.{ModRequest}
@@ -115,3 +117,27 @@ pub record ModvarMade (p : PairTaken) (set : ℕ) (fit : Bool) (impl : ℕ) (pla
   pub required : r .required ≡ set
   pub implementation : r .implementation ≡ impl
   pub room : r .room ≡ (p .comps & (p .vers & (fit & placed)))
+
+-- ---- "sysvar"
+
+pub record SysvarAsks (k : Command) (r : SysvarRequest) : Type 0 where
+  pub list : Members
+  pub is : k ≡ ADD-SYSVAR (r .component) (r .version) list
+  pub composition : compositionView (r .composition) ≡ membersOf list
+
+pub record SysvarAsked (t t′ : Tables) (r : SysvarRequest) (x : Said) : Type 0 where
+  pub c : Name
+  pub v : Name
+  pub ms : NamedMembers
+  pub said : x ≡ SYSVAR c v ms
+  pub room : r .room ≡ fits (entered t (sysvarNames c v ms))
+  pub tables : r .room ≡ true → t′ ≡ entered t (sysvarNames c v ms)
+  pub asks : r .room ≡ true → SysvarAsks (sysvarNumbered t′ c v ms) r
+
+pub record SysvarMade (p : PairTaken) (m : named.Members) (z : ℕ) (r : SysvarRequest) : Type 0 where
+  pub there : r .there ≡ true
+  pub end : r .end ≡ z
+  pub component : r .component ≡ p .component
+  pub version : r .version ≡ p .version
+  pub composition : r .composition ≡ m .composition
+  pub room : r .room ≡ (m .comps & m .vers)

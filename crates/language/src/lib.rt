@@ -6,7 +6,9 @@ ghost use Prim.Native.Nat.{ℕ, _+_, _<_, _≤_};
 ghost use lib.ListN.{length};
 ghost use Rattle.text.specs.Bytes.{nameWord, short};
 ghost use Rattle.names.specs.Stored.{tableOf, tablesOf};
-ghost use Rattle.language.specs.Requested.{SpecAsked, SpecMade, ModAsked, ModMade, ModvarAsked, ModvarMade, PairEnters, PairMade};
+ghost use Rattle.language.specs.Requested.{SpecAsked, SpecMade, ModAsked, ModMade, ModvarAsked, ModvarMade, PairEnters, PairMade, SysvarAsked, SysvarMade};
+ghost use Rattle.language.specs.SysSteps.{SysStep, SysWith, UsableStep, sysState};
+ghost use Rattle.requests.specs.Views.{usableView};
 ghost use Rattle.language.specs.MemberSteps.{MemberStep, MemberWith, memberStart, memberState};
 ghost use Rattle.language.specs.ModSteps.{ModStep, ModWith, modStart, modState};
 ghost use Rattle.model.specs.Book.{components, facilities, implementations, versions};
@@ -15,7 +17,7 @@ ghost use Rattle.sets.specs.Sets.{bit};
 ghost use Rattle.language.specs.Steps.{Each, FacilityStep};
 ghost use Rattle.language.specs.Asked.{SpecBody, SpecEnds, SpecStep, SpecWith, specBody, specStart, specState};
 ghost use Rattle.language.specs.Entering.{Enters, Kept};
-ghost use Rattle.text.specs.Language.{add-mod, add-modvar, add-spec, ahead, comma, compo, imp, listOf, modVersion, name, namesUpTo, pair, requirements, semicolon, specVersion, want};
+ghost use Rattle.text.specs.Language.{add-mod, add-modvar, add-spec, add-sysvar, ahead, comma, compo, imp, listOf, modVersion, name, namesUpTo, pair, requirements, semicolon, specVersion, sysVersion, want};
 ghost use Rattle.text.specs.Tokens.{mark};
 ghost use Rattle.words.specs.Reading.{part};
 ghost use Rattle.language.specs.Readers.{Answers, Any, Got, PartOf, Span, Told, anyWord, keyAt, keyNumber};
@@ -900,5 +902,208 @@ fn no_named_members(comps: bool, vers: bool) -> Members
         composition: requests::no_members(),
         comps: comps,
         vers: vers,
+    }
+}
+
+// What "sysvar" asks for.
+pub struct SysvarRequest {
+    pub there: bool,
+    pub end: usize,
+    pub component: usize,
+    pub version: usize,
+    pub composition: requests::Composition,
+    pub room: bool,
+}
+
+fn no_sysvar_request() -> SysvarRequest
+    ensures { λ r. ⌜ r .there ≡ false ⌝ }
+{
+    SysvarRequest {
+        there: false,
+        end: 0,
+        component: 0,
+        version: 0,
+        composition: requests::no_members(),
+        room: true,
+    }
+}
+
+fn sysvar_request(p: PairTaken, m: Members, end: usize) -> SysvarRequest
+    ensures { λ r. ⌜ SysvarMade p m end r ⌝ }
+{
+    let composition = m.composition;
+    SysvarRequest {
+        there: true,
+        end: end,
+        component: p.component,
+        version: p.version,
+        composition: composition,
+        room: m.comps & m.vers,
+    }
+}
+
+// add-sysvar = "sysvar" cn "." vn "=" compos "end", from behind "sysvar".
+pub fn read_sysvar(comps: &mut [u8], vers: &mut [u8], text: &[u8], at: usize) -> SysvarRequest
+    requires { ⌜ Kept components (now comps) ⌝ }
+    requires { ⌜ Kept versions (now vers) ⌝ }
+    requires { ⌜ at ≤ length (now text) ⌝ }
+    ensures { λ r. ⌜ Kept components (now (comps .exit)) ⌝ }
+    ensures { λ r. ⌜ Kept versions (now (vers .exit)) ⌝ }
+    ensures { λ r. ⌜ ((f i : List ℕ) → Answers add-sysvar (SysvarAsked (tablesOf (now (comps .entry)) (now (vers .entry)) f i) (tablesOf (now (comps .exit)) (now (vers .exit)) f i) r) (now (text .entry)) at (r .there) (r .end)) ⌝ }
+{
+    let p = take_pair(comps, vers, text, at);
+    if !p.there {
+        return no_sysvar_request();
+    }
+    let a = p.end;
+    let k = want_mark(text, a, 61);
+    if !k.there {
+        return no_sysvar_request();
+    }
+    let b = k.end;
+    let m = take_members(comps, vers, text, b, no_named_members(p.comps, p.vers));
+    if !m.there {
+        return no_sysvar_request();
+    }
+    let e = m.end;
+    let d = want_key(text, e, END);
+    if !d.there {
+        return no_sysvar_request();
+    }
+    sysvar_request(p, m, d.end)
+}
+
+// ---- a system
+
+// Usable components, if `there`, and whether there was room for their names.
+pub struct UsableNames {
+    pub there: bool,
+    pub end: usize,
+    pub usable: requests::Usable,
+    pub comps: bool,
+}
+
+// A usable component.
+fn take_usable(comps: &mut [u8], text: &[u8], at: usize, g: UsableNames) -> UsableNames
+    requires { ⌜ Kept components (now comps) ⌝ }
+    requires { ⌜ at ≤ length (now text) ⌝ }
+    ensures { λ r. ⌜ Kept components (now (comps .exit)) ⌝ }
+    ensures { λ r. ⌜ Answers name (UsableStep (tableOf components (now (comps .entry)), usableView (g .usable), g .comps) (tableOf components (now (comps .exit)), usableView (r .usable), r .comps)) (now (text .entry)) at (r .there) (r .end) ⌝ }
+{
+    let mut wrong = g;
+    wrong.there = false;
+    let c = take_name(comps, 32, text, at);
+    if !c.there {
+        return wrong;
+    }
+    let usable = g.usable;
+    UsableNames {
+        there: true,
+        end: c.end,
+        usable: requests::with_usable(usable, c.number),
+        comps: g.comps & c.room,
+    }
+}
+
+// cns = cn {"," cn}
+fn take_usables(comps: &mut [u8], text: &[u8], at: usize, start: UsableNames) -> UsableNames
+    requires { ⌜ Kept components (now comps) ⌝ }
+    requires { ⌜ at ≤ length (now text) ⌝ }
+    ensures { λ r. ⌜ Kept components (now (comps .exit)) ⌝ }
+    ensures { λ r. ⌜ Answers (listOf comma name) (Each UsableStep (tableOf components (now (comps .entry)), usableView (start .usable), start .comps) (tableOf components (now (comps .exit)), usableView (r .usable), r .comps)) (now (text .entry)) at (r .there) (r .end) ⌝ }
+{
+    let mut i = at;
+    let mut g = start;
+    loop {
+        let n = take_usable(comps, text, i, g);
+        if !n.there {
+            return n;
+        }
+        let e = n.end;
+        let m = want_mark(text, e, 44);
+        if !m.there {
+            return n;
+        }
+        i = m.end;
+        g = n;
+    }
+}
+
+// Versions with their compositions, if `there`, and whether there was room for the names of components (`comps`) and of versions
+// (`vers`).
+pub struct SysVersions {
+    pub there: bool,
+    pub end: usize,
+    pub compositions: requests::Compositions,
+    pub comps: bool,
+    pub vers: bool,
+}
+
+// The version v with its composition m.
+fn with_sys_version(g: SysVersions, v: Taken, m: Members) -> SysVersions
+    ensures { λ r. ⌜ SysWith g (v .number) m r ⌝ }
+{
+    let compositions = g.compositions;
+    let composition = m.composition;
+    SysVersions {
+        there: true,
+        end: m.end,
+        compositions: requests::with_composition(compositions, v.number, composition),
+        comps: m.comps,
+        vers: m.vers,
+    }
+}
+
+// vn "=" compos
+fn take_sys_version(comps: &mut [u8], vers: &mut [u8], text: &[u8], at: usize, g: SysVersions) -> SysVersions
+    requires { ⌜ Kept components (now comps) ⌝ }
+    requires { ⌜ Kept versions (now vers) ⌝ }
+    requires { ⌜ at ≤ length (now text) ⌝ }
+    ensures { λ r. ⌜ Kept components (now (comps .exit)) ⌝ }
+    ensures { λ r. ⌜ Kept versions (now (vers .exit)) ⌝ }
+    ensures { λ r. ⌜ Answers sysVersion (SysStep (sysState (now (comps .entry)) (now (vers .entry)) g) (sysState (now (comps .exit)) (now (vers .exit)) r)) (now (text .entry)) at (r .there) (r .end) ⌝ }
+{
+    let mut wrong = g;
+    wrong.there = false;
+    let v = take_name(vers, 64, text, at);
+    if !v.there {
+        return wrong;
+    }
+    let a = v.end;
+    let k = want_mark(text, a, 61);
+    if !k.there {
+        return wrong;
+    }
+    let b = k.end;
+    let m = take_members(comps, vers, text, b, no_named_members(g.comps, g.vers & v.room));
+    if !m.there {
+        return wrong;
+    }
+    with_sys_version(g, v, m)
+}
+
+// vn "=" compos {";" vn "=" compos}
+fn take_sys_versions(comps: &mut [u8], vers: &mut [u8], text: &[u8], at: usize, start: SysVersions) -> SysVersions
+    requires { ⌜ Kept components (now comps) ⌝ }
+    requires { ⌜ Kept versions (now vers) ⌝ }
+    requires { ⌜ at ≤ length (now text) ⌝ }
+    ensures { λ r. ⌜ Kept components (now (comps .exit)) ⌝ }
+    ensures { λ r. ⌜ Kept versions (now (vers .exit)) ⌝ }
+    ensures { λ r. ⌜ Answers (listOf semicolon sysVersion) (Each SysStep (sysState (now (comps .entry)) (now (vers .entry)) start) (sysState (now (comps .exit)) (now (vers .exit)) r)) (now (text .entry)) at (r .there) (r .end) ⌝ }
+{
+    let mut i = at;
+    let mut g = start;
+    loop {
+        let n = take_sys_version(comps, vers, text, i, g);
+        if !n.there {
+            return n;
+        }
+        let e = n.end;
+        let m = want_mark(text, e, 59);
+        if !m.there {
+            return n;
+        }
+        i = m.end;
+        g = n;
     }
 }

@@ -5,6 +5,7 @@ pub mod Asked
 pub mod ModSteps
 pub mod MemberSteps
 pub mod SysSteps
+pub mod Words
 pub mod Requested
 pub mod Growth
 pub mod TokenLaws
@@ -22,3 +23,5 @@ pub mod PairLaws
 pub mod MemberLaws
 pub mod SysvarLaws
 pub mod SysLaws
+pub mod SysRequestLaws
+pub mod WordLaws

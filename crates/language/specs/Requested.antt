@@ -5,18 +5,21 @@ use mathlib.Core.List.{List}
 use mathlib.Core.Path.{_≡_}
 use Prim.Native.Nat.{ℕ}
 use Rattle.model.specs.Book.{components, facilities, versions}
-use Rattle.model.specs.Commands.{ADD-MOD, ADD-MODVAR, ADD-SPEC, ADD-SYSVAR, Command, Members}
+use Rattle.model.specs.Commands.{ADD-MOD, ADD-MODVAR, ADD-SPEC, ADD-SYS, ADD-SYSVAR, Command, Members}
 use Rattle.model.specs.Lists.{setOf}
 use Rattle.model.specs.Questions.{eachBelow}
-use Rattle.requests.specs.Said.{membersOf, numbersOf, setsOf}
-use Rattle.requests.specs.Views.{compositionView, numbersView, setsView}
+use Rattle.requests.specs.Said.{compositionsOf, membersOf, numbersOf, setsOf, usableOf}
+use Rattle.requests.specs.Views.{compositionView, compositionsView, numbersView, setsView, usableView}
 use Rattle.sets.specs.Sets.{bit}
 use Rattle.sets.specs.Tests.{_&_}
-use Rattle.text.specs.Language.{MOD, MODVAR, Name, NamedMembers, SPEC, SYSVAR, Said}
-use Rattle.text.specs.Tables.{Table, Tables, entered, fits, modNames, modNumbered, modvarNames, modvarNumbered, specNames, specNumbered, sysvarNames, sysvarNumbered}
+use Rattle.text.specs.Language.{MOD, MODVAR, Name, NamedMembers, SPEC, SYS, SYSVAR, Said}
+use Rattle.text.specs.Tables.{Table, Tables, entered, fits, modNames, modNumbered, modvarNames, modvarNumbered, specNames, specNumbered, sysNames, sysNumbered, sysvarNames, sysvarNumbered}
 use Rattle.language.specs.Entering.{Enters}
 use Rattle.language.specs.declared.Members as named
 use Rattle.language.specs.declared.SysvarRequest.{SysvarRequest}
+use Rattle.language.specs.declared.SysRequest.{SysRequest}
+use Rattle.language.specs.declared.SysVersions.{SysVersions}
+use Rattle.language.specs.declared.UsableNames.{UsableNames}
 use Rattle.language.specs.declared.PairTaken.{PairTaken}
 use Rattle.language.specs.declared.ModvarRequest.{ModvarRequest}
 use Rattle.language.specs.declared.ModRequest.{ModRequest}
@@ -141,3 +144,29 @@ pub record SysvarMade (p : PairTaken) (m : named.Members) (z : ℕ) (r : SysvarR
   pub version : r .version ≡ p .version
   pub composition : r .composition ≡ m .composition
   pub room : r .room ≡ (m .comps & m .vers)
+
+-- ---- "sys"
+
+pub record SysAsks (k : Command) (r : SysRequest) : Type 0 where
+  pub usables : List ℕ
+  pub list : List (ℕ × Members)
+  pub is : k ≡ ADD-SYS (r .component) usables list
+  pub usable : usableView (r .usable) ≡ usableOf usables
+  pub versions : compositionsView (r .versions) ≡ compositionsOf list
+
+pub record SysAsked (t t′ : Tables) (r : SysRequest) (x : Said) : Type 0 where
+  pub c : Name
+  pub us : List Name
+  pub ks : List (Name × NamedMembers)
+  pub said : x ≡ SYS c us ks
+  pub room : r .room ≡ fits (entered t (sysNames c us ks))
+  pub tables : r .room ≡ true → t′ ≡ entered t (sysNames c us ks)
+  pub asks : r .room ≡ true → SysAsks (sysNumbered t′ c us ks) r
+
+pub record SysMade (number : ℕ) (u : UsableNames) (v : SysVersions) (z : ℕ) (r : SysRequest) : Type 0 where
+  pub there : r .there ≡ true
+  pub end : r .end ≡ z
+  pub component : r .component ≡ number
+  pub usable : r .usable ≡ u .usable
+  pub versions : r .versions ≡ v .compositions
+  pub room : r .room ≡ (v .comps & v .vers)

@@ -10,7 +10,7 @@ use Rattle.model.specs.Maps.{Map}
 use Rattle.names.specs.Stored.{tableOf}
 use Rattle.requests.specs.Gathered.{Gathered, nothing}
 use Rattle.requests.specs.Said.{alone, compositionsStep, membersOf, usableStep}
-use Rattle.requests.specs.Views.{compositionView, compositionsView}
+use Rattle.requests.specs.Views.{compositionView, compositionsView, usableView}
 use Rattle.sets.specs.Tests.{_&_}
 use Rattle.text.specs.Language.{Name, NamedMembers}
 use Rattle.text.specs.Tables.{Table}
@@ -18,6 +18,7 @@ use Rattle.language.specs.Entering.{Enters}
 use Rattle.language.specs.MemberSteps.{MemberState, MemberStep, memberStart}
 use Rattle.language.specs.Steps.{Each}
 use Rattle.language.specs.declared.Members as named
+use Rattle.language.specs.declared.UsableNames.{UsableNames}
 use Rattle.language.specs.declared.SysVersions.{SysVersions}
 
 -- ---- usable components: the table, what is gathered, and whether there was room
@@ -31,6 +32,10 @@ pub record UsableStep (s s′ : Usables) (w : Name) : Type 0 where
   pub enters : Enters components (s .0) (s′ .0) number placed w
   pub usable : s′ .1 ≡ usableStep (s .1) (alone number)
   pub room : s′ .2 ≡ (s .2 & placed)
+
+pub record UsableStart (comps : Bool) (r : UsableNames) : Type 0 where
+  pub none-yet : usableView (r .usable) ≡ nothing
+  pub room-is : r .comps ≡ comps
 
 -- ---- versions of a system
 

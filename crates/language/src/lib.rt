@@ -6,8 +6,9 @@ ghost use Prim.Native.Nat.{ℕ, _+_, _<_, _≤_};
 ghost use lib.ListN.{length};
 ghost use Rattle.text.specs.Bytes.{nameWord, short};
 ghost use Rattle.names.specs.Stored.{tableOf, tablesOf};
-ghost use Rattle.language.specs.Requested.{SpecAsked, SpecMade, ModAsked, ModMade, ModvarAsked, ModvarMade, PairEnters, PairMade, SysvarAsked, SysvarMade};
-ghost use Rattle.language.specs.SysSteps.{SysStep, SysWith, UsableStep, sysState};
+ghost use Rattle.language.specs.Requested.{SpecAsked, SpecMade, ModAsked, ModMade, ModvarAsked, ModvarMade, PairEnters, PairMade, SysvarAsked, SysvarMade, SysAsked, SysMade};
+ghost use Rattle.language.specs.Words.{CommandAt, OneSaid, PairSaid, commandNumber};
+ghost use Rattle.language.specs.SysSteps.{SysStep, SysWith, UsableStart, UsableStep, sysStart, sysState};
 ghost use Rattle.requests.specs.Views.{usableView};
 ghost use Rattle.language.specs.MemberSteps.{MemberStep, MemberWith, memberStart, memberState};
 ghost use Rattle.language.specs.ModSteps.{ModStep, ModWith, modStart, modState};
@@ -17,7 +18,7 @@ ghost use Rattle.sets.specs.Sets.{bit};
 ghost use Rattle.language.specs.Steps.{Each, FacilityStep};
 ghost use Rattle.language.specs.Asked.{SpecBody, SpecEnds, SpecStep, SpecWith, specBody, specStart, specState};
 ghost use Rattle.language.specs.Entering.{Enters, Kept};
-ghost use Rattle.text.specs.Language.{add-mod, add-modvar, add-spec, add-sysvar, ahead, comma, compo, imp, listOf, modVersion, name, namesUpTo, pair, requirements, semicolon, specVersion, sysVersion, want};
+ghost use Rattle.text.specs.Language.{Name, Said, add-mod, add-modvar, add-spec, add-sys, add-sysvar, ahead, comma, compo, imp, listOf, modVersion, name, namesUpTo, ofOne, ofPair, pair, requirements, semicolon, specVersion, sysVersion, want};
 ghost use Rattle.text.specs.Tokens.{mark};
 ghost use Rattle.words.specs.Reading.{part};
 ghost use Rattle.language.specs.Readers.{Answers, Any, Got, PartOf, Span, Told, anyWord, keyAt, keyNumber};
@@ -1105,5 +1106,219 @@ fn take_sys_versions(comps: &mut [u8], vers: &mut [u8], text: &[u8], at: usize, 
         }
         i = m.end;
         g = n;
+    }
+}
+
+fn no_usable_names(comps: bool) -> UsableNames
+    ensures { λ r. ⌜ UsableStart comps r ⌝ }
+{
+    UsableNames {
+        there: true,
+        end: 0,
+        usable: requests::no_usable(),
+        comps: comps,
+    }
+}
+
+fn no_sys_versions(comps: bool) -> SysVersions
+    ensures { λ r. ⌜ ((c v : List ℕ) → sysState c v r ≡ sysStart (tableOf components c) (tableOf versions v) comps) ⌝ }
+{
+    SysVersions {
+        there: true,
+        end: 0,
+        compositions: requests::no_compositions(),
+        comps: comps,
+        vers: true,
+    }
+}
+
+// What "sys" asks for.
+pub struct SysRequest {
+    pub there: bool,
+    pub end: usize,
+    pub component: usize,
+    pub usable: requests::Usable,
+    pub versions: requests::Compositions,
+    pub room: bool,
+}
+
+fn no_sys_request() -> SysRequest
+    ensures { λ r. ⌜ r .there ≡ false ⌝ }
+{
+    SysRequest {
+        there: false,
+        end: 0,
+        component: 0,
+        usable: requests::no_usable(),
+        versions: requests::no_compositions(),
+        room: true,
+    }
+}
+
+fn sys_request(c: Taken, u: UsableNames, v: SysVersions, end: usize) -> SysRequest
+    ensures { λ r. ⌜ SysMade (c .number) u v end r ⌝ }
+{
+    let usable = u.usable;
+    let versions = v.compositions;
+    SysRequest {
+        there: true,
+        end: end,
+        component: c.number,
+        usable: usable,
+        versions: versions,
+        room: v.comps & v.vers,
+    }
+}
+
+// add-sys = "sys" cn "use" cns ";" vn "=" compos {";" vn "=" compos} "end", from behind "sys".
+pub fn read_sys(comps: &mut [u8], vers: &mut [u8], text: &[u8], at: usize) -> SysRequest
+    requires { ⌜ Kept components (now comps) ⌝ }
+    requires { ⌜ Kept versions (now vers) ⌝ }
+    requires { ⌜ at ≤ length (now text) ⌝ }
+    ensures { λ r. ⌜ Kept components (now (comps .exit)) ⌝ }
+    ensures { λ r. ⌜ Kept versions (now (vers .exit)) ⌝ }
+    ensures { λ r. ⌜ ((f i : List ℕ) → Answers add-sys (SysAsked (tablesOf (now (comps .entry)) (now (vers .entry)) f i) (tablesOf (now (comps .exit)) (now (vers .exit)) f i) r) (now (text .entry)) at (r .there) (r .end)) ⌝ }
+{
+    let c = take_name(comps, 32, text, at);
+    if !c.there {
+        return no_sys_request();
+    }
+    let a = c.end;
+    let k = want_key(text, a, USE);
+    if !k.there {
+        return no_sys_request();
+    }
+    let b = k.end;
+    let u = take_usables(comps, text, b, no_usable_names(c.room));
+    if !u.there {
+        return no_sys_request();
+    }
+    let e = u.end;
+    let q = want_mark(text, e, 59);
+    if !q.there {
+        return no_sys_request();
+    }
+    let i = q.end;
+    let v = take_sys_versions(comps, vers, text, i, no_sys_versions(u.comps));
+    if !v.there {
+        return no_sys_request();
+    }
+    let j = v.end;
+    let d = want_key(text, j, END);
+    if !d.there {
+        return no_sys_request();
+    }
+    sys_request(c, u, v, d.end)
+}
+
+// ---- deletions and queries: the names are parts of the text
+
+// del-spec = "delspec" cn, and the others of one component, from behind the first word.
+pub fn read_one(text: &[u8], at: usize) -> Part
+    requires { ⌜ at ≤ length (now text) ⌝ }
+    ensures { λ r. ⌜ ((f : Name → Said) → Answers (ofOne f) (OneSaid f (now (text .entry)) (r .start) (r .end)) (now (text .entry)) at (r .there) (r .end)) ⌝ }
+{
+    read_name(text, at)
+}
+
+// A component and a version, if `there`: the parts of the text that are their names.
+pub struct Parts {
+    pub there: bool,
+    pub start: usize,
+    pub end: usize,
+    pub from: usize,
+    pub to: usize,
+}
+
+// del-modvar = "delmodvar" cn "." vn, and the others of a pair, from behind the first word.
+pub fn read_pair(text: &[u8], at: usize) -> Parts
+    requires { ⌜ at ≤ length (now text) ⌝ }
+    ensures { λ r. ⌜ ((f : Name → Name → Said) → Answers (ofPair f) (PairSaid f (now (text .entry)) r) (now (text .entry)) at (r .there) (r .to)) ⌝ }
+{
+    let wrong = Parts {
+        there: false,
+        start: at,
+        end: at,
+        from: at,
+        to: at,
+    };
+    let c = read_name(text, at);
+    if !c.there {
+        return wrong;
+    }
+    let a = c.end;
+    let k = want_mark(text, a, 46);
+    if !k.there {
+        return wrong;
+    }
+    let b = k.end;
+    let v = read_name(text, b);
+    if !v.there {
+        return wrong;
+    }
+    Parts {
+        there: true,
+        start: c.start,
+        end: c.end,
+        from: v.start,
+        to: v.end,
+    }
+}
+
+// ---- the command word
+
+// The first word of a command: the number of a keyword, or NO_COMMAND, or OVER.
+pub struct CommandWord {
+    pub number: usize,
+    pub end: usize,
+}
+
+// What stands there is not of the language.
+pub const NO_COMMAND: usize = 28;
+
+// "quit" or the end of the text.
+pub const OVER: usize = 29;
+
+const QUIT: usize = 10;
+
+// The word from a to e, as the first of a command.
+fn command_word(text: &[u8], a: usize, e: usize) -> CommandWord
+    requires { ⌜ Span (now text) a e ⌝ }
+    ensures { λ r. ⌜ r .number ≡ commandNumber (part (now (text .entry)) a e) ⌝ }
+    ensures { λ r. ⌜ r .end ≡ e ⌝ }
+{
+    let k = keyword_between(text, a, e);
+    if k == QUIT {
+        return CommandWord {
+            number: OVER,
+            end: e,
+        };
+    }
+    CommandWord { number: k, end: e }
+}
+
+// The first word of the next command; the caller goes on by its number.
+pub fn read_command(text: &[u8], at: usize) -> CommandWord
+    requires { ⌜ at ≤ length (now text) ⌝ }
+    ensures { λ r. ⌜ CommandAt (now (text .entry)) at (r .number) (r .end) ⌝ }
+{
+    match words::next_token(text, at) {
+        words::Token::Word(a, e) => command_word(text, a, e),
+        words::Token::Quoted(_, _) => CommandWord {
+            number: NO_COMMAND,
+            end: at,
+        },
+        words::Token::Mark(_, _) => CommandWord {
+            number: NO_COMMAND,
+            end: at,
+        },
+        words::Token::End => CommandWord {
+            number: OVER,
+            end: at,
+        },
+        words::Token::Bad => CommandWord {
+            number: NO_COMMAND,
+            end: at,
+        },
     }
 }

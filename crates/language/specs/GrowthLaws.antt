@@ -94,6 +94,7 @@ grows-then n t t′ t″ r r′ r″ ws vs a b = record {
   where
     joint : r′ ≡ true → enter t′ vs ≡ enter t (ws ++ vs)
     joint y = ap (λ (u : Table). enter u vs) (a .table y) ∙ sym (enter-append t ws vs)
+
     shorter : length (enter t (ws ++ vs)) ≤ n → length (enter t ws) ≤ n
     shorter l = let m = enter-length (enter t ws) vs in let e = ap length (enter-append t ws vs) in omega arith
 

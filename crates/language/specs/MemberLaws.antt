@@ -186,9 +186,11 @@ unfolding VersionTaken optionMap
 version-number s s′ version none q y =
     (sym (q .1) ∙ y, subst (Longer (s .vers)) (sym (q .0)) (longer-same (s .vers)), λ u l. sym (q .2))
 version-number s s′ version (some w) q y =
-    let v = sym (q .3) ∙ y in let b = and-r (s .versFit) (q .1) v in
-    (and-l (s .versFit) (q .1) v, enters-longer versions (s .vers) (s′ .vers) (q .0) (q .1) w (q .2) b,
-    λ u l. ap some (enters-number versions (s .vers) (s′ .vers) (q .0) (q .1) w (q .2) b u l) ∙ sym (q .4))
+    let v = sym (q .3) ∙ y in let b = and-r (s .versFit) (q .1) v in (
+      and-l (s .versFit) (q .1) v,
+      enters-longer versions (s .vers) (s′ .vers) (q .0) (q .1) w (q .2) b,
+      λ u l. ap some (enters-number versions (s .vers) (s′ .vers) (q .0) (q .1) w (q .2) b u l) ∙ sym (q .4),
+    )
 
 pub member-all : (s s′ : MemberState) (xs : NamedMembers) → Each MemberStep s s′ xs → (s′ .compsFit & s′ .versFit) ≡ true
     → NumberedAll memberTables (λ s. s .compsFit & s .versFit) (λ s. s .members) memberNum membersStep (λ y. true) s s′ xs

@@ -152,7 +152,7 @@ module _ (t : Text) (at a : ℕ) (c₀ : Bool) (Q : Name → Type 0) (n : Answer
         unfolding add-mod _>>=_ _>>_ andThen
         mod-no-end there i f o =
             let u : add-mod (drop at t) ≡ none =
-                rw (cited .is, marked .is, listed .is, ap (λ (j : Token). want j (drop e t)) (sym end-key) ∙ m .no (not-true m₀ o)) in
+            rw (cited .is, marked .is, listed .is, ap (λ (j : Token). want j (drop e t)) (sym end-key) ∙ m .no (not-true m₀ o)) in
             mod-none there i f u
 
         mod-read : notᵇ m₀ ≡ false → ((c : Name) (is : List (Name × Name)) → Q c → Q′ is → R (MOD c is)) → Answers add-mod R t at true z
@@ -266,13 +266,18 @@ mod-asked t at a b e z c₀ k₀ v₀ m₀ C C′ W W′ I I′ j placed start v
   where
     tables : Tables
     tables = tablesOf C W f I
+
     after′ : Tables
     after′ = tablesOf C′ W′ f I′
+
     hc : length (tableOf components C) ≤ components
     hc = table-length components C
+
     hv : length (tableOf versions W) ≤ versions
     hv = table-length versions W
+
     hf : length (tableOf facilities f) ≤ facilities
     hf = table-length facilities f
+
     hi : length (tableOf implementations I) ≤ implementations
     hi = table-length implementations I

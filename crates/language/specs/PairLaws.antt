@@ -108,7 +108,7 @@ module _ (t : Text) (at a : ℕ) (p₀ : Bool) (Q : Name × Name → Type 0) (p 
       unfolding add-modvar _>>=_ _>>_ andThen
       modvar-no-key there z f w =
           let u : add-modvar (drop at t) ≡ none =
-              rw (paired .is, required .is, ap (λ (j : Token). want j (drop b t)) (sym impl-key) ∙ k .no (not-true k₀ w)) in
+          rw (paired .is, required .is, ap (λ (j : Token). want j (drop b t)) (sym impl-key) ∙ k .no (not-true k₀ w)) in
           modvar-none there z f u
 
       module _ (w : notᵇ k₀ ≡ false) (i₀ : Bool) (z : ℕ) (Q″ : Name → Type 0) (i : Answers imp Q″ t e i₀ z) where
@@ -189,13 +189,18 @@ modvar-asked t at a b e z p₀ q₀ k₀ i₀ C C′ W W′ F F′ I I′ m set 
   where
     tables : Tables
     tables = tablesOf C W F I
+
     after : Tables
     after = tablesOf C′ W′ F′ I′
+
     hc : length (tableOf components C) ≤ components
     hc = table-length components C
+
     hv : length (tableOf versions W) ≤ versions
     hv = table-length versions W
+
     hf : length (tableOf facilities F) ≤ facilities
     hf = table-length facilities F
+
     hi : length (tableOf implementations I) ≤ implementations
     hi = table-length implementations I

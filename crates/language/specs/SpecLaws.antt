@@ -89,9 +89,10 @@ unfolding Each
 fits-before s s′ [] e y = (ap (λ (z : SpecState). z .versFit) e ∙ y, subst (λ (z : SpecState). Longer (s .vers) (z .vers)) e (longer-same (s .vers)))
 fits-before s s′ (x ∷ xs) e y =
     let f = e .1 in let r = fits-before (e .0) s′ xs (e .2) y in
-    let v = sym (f .fits) ∙ r .0 in
-    (and-l (s .versFit) (f .placed) v,
-    longer-then _ _ _ (enters-longer versions (s .vers) (e .0 .vers) (f .number) (f .placed) (x .1 .0) (f .enters) (and-r (s .versFit) (f .placed) v)) (r .1))
+    let v = sym (f .fits) ∙ r .0 in (
+      and-l (s .versFit) (f .placed) v,
+      longer-then _ _ _ (enters-longer versions (s .vers) (e .0 .vers) (f .number) (f .placed) (x .1 .0) (f .enters) (and-r (s .versFit) (f .placed) v)) (r .1),
+    )
 
 or-true : (a : Bool) → (a or true) ≡ true
 unfolding _or_
@@ -107,24 +108,28 @@ or-nothing false = refl
 after-found : (s s′ : SpecState) (xs : List Version) → Each SpecStep s s′ xs → s .found ≡ true
     → (s′ .found ≡ true) × (s′ .twice ≡ (s .twice or nonEmpty (standards xs))) × (standards xs ≡ [] → s′ .standard ≡ s .standard)
 unfolding Each standards nonEmpty
-after-found s s′ [] e y =
-    (ap (λ (z : SpecState). z .found) (sym e) ∙ y, ap (λ (z : SpecState). z .twice) (sym e) ∙ sym (or-nothing (s .twice)),
-    λ q. ap (λ (z : SpecState). z .standard) (sym e))
+after-found s s′ [] e y = (
+  ap (λ (z : SpecState). z .found) (sym e) ∙ y,
+  ap (λ (z : SpecState). z .twice) (sym e) ∙ sym (or-nothing (s .twice)),
+  λ q. ap (λ (z : SpecState). z .standard) (sym e),
+)
 after-found s s′ (x ∷ xs) e y =
     let f = e .1 in
     let r = after-found (e .0) s′ xs (e .2) (f .found ∙ or-l (s .found) (x .0) y) in
     let more = f .twice ∙ ap (λ (b : Bool). s .twice or b) (and-true _ (x .0) y) in
     elim (bool? (x .0)) [
-      | inl b ↦
-        (r .0,
+      | inl b ↦ (
+        r .0,
         r .1 ∙ or-l _ _ (more ∙ or-r (s .twice) (x .0) b)
-        ∙ sym (ap (λ (l : List Name). s .twice or nonEmpty l) (if-true _ _ _ b) ∙ or-true (s .twice)),
-        λ q. clash refl (ap nonEmpty (sym (if-true (x .0) (x .1 .0 ∷ standards xs) (standards xs) b) ∙ q)))
-      | inr b ↦
-        (r .0,
+            ∙ sym (ap (λ (l : List Name). s .twice or nonEmpty l) (if-true _ _ _ b) ∙ or-true (s .twice)),
+        λ q. clash refl (ap nonEmpty (sym (if-true (x .0) (x .1 .0 ∷ standards xs) (standards xs) b) ∙ q)),
+      )
+      | inr b ↦ (
+        r .0,
         r .1 ∙ ap (λ (z : Bool). z or nonEmpty (standards xs)) (more ∙ ap (λ (z : Bool). s .twice or z) b ∙ or-nothing (s .twice))
-        ∙ ap (λ (l : List Name). s .twice or nonEmpty l) (sym (if-false _ _ _ b)),
-        λ q. r .2 (sym (if-false (x .0) (x .1 .0 ∷ standards xs) (standards xs) b) ∙ q) ∙ f .standard ∙ if-false _ _ _ b)
+            ∙ ap (λ (l : List Name). s .twice or nonEmpty l) (sym (if-false _ _ _ b)),
+        λ q. r .2 (sym (if-false (x .0) (x .1 .0 ∷ standards xs) (standards xs) b) ∙ q) ∙ f .standard ∙ if-false _ _ _ b,
+      )
     ]
 
 -- "Exactly one version of a spec carries "std"."
@@ -143,22 +148,24 @@ standard-is s s′ (x ∷ xs) e n m =
     let t = f .twice ∙ ap₂ _or_ m (and-false _ (x .0) n) in
     elim (bool? (x .0)) [
       | inl b ↦
-        (let g = f .found ∙ or-r (s .found) (x .0) b in
-        subst (StandardIs s′) (sym (if-true _ _ _ b))
-        (first (standards xs) refl (after-found (e .0) s′ xs (e .2) g) (t ∙ or-nothing false) (f .standard ∙ if-true _ _ _ b)))
+          (let g = f .found ∙ or-r (s .found) (x .0) b in
+          subst (StandardIs s′) (sym (if-true _ _ _ b))
+          (first (standards xs) refl (after-found (e .0) s′ xs (e .2) g) (t ∙ or-nothing false) (f .standard ∙ if-true _ _ _ b)))
       | inr b ↦
-        subst (StandardIs s′) (sym (if-false _ _ _ b))
-        (standard-is (e .0) s′ xs (e .2) (f .found ∙ ap₂ _or_ n b ∙ or-nothing false) (t ∙ or-nothing false))
+          subst (StandardIs s′) (sym (if-false _ _ _ b))
+          (standard-is (e .0) s′ xs (e .2) (f .found ∙ ap₂ _or_ n b ∙ or-nothing false) (t ∙ or-nothing false))
     ]
   where
     first : (l : List Name) → standards xs ≡ l
         → (s′ .found ≡ true) × (s′ .twice ≡ (e .0 .twice or nonEmpty (standards xs))) × (standards xs ≡ [] → s′ .standard ≡ e .0 .standard)
         → e .0 .twice ≡ false → e .0 .standard ≡ e .1 .number → StandardIs s′ (x .1 .0 ∷ l)
-    first [] q r o k =
-        (r .0, r .1 ∙ ap₂ _or_ o (ap nonEmpty q) ∙ (unfold nonEmpty in or-nothing false),
-        λ y u l. (let h = fits-before (e .0) s′ xs (e .2) y in
-        enters-number versions (s .vers) (e .0 .vers) (e .1 .number) (e .1 .placed) (x .1 .0) (e .1 .enters)
-        (and-r (s .versFit) (e .1 .placed) (sym (e .1 .fits) ∙ h .0)) u (longer-then _ _ _ (h .1) l) ∙ sym (r .2 q ∙ k)))
+    first [] q r o k = (
+      r .0,
+      r .1 ∙ ap₂ _or_ o (ap nonEmpty q) ∙ (unfold nonEmpty in or-nothing false),
+      λ y u l. (let h = fits-before (e .0) s′ xs (e .2) y in
+          enters-number versions (s .vers) (e .0 .vers) (e .1 .number) (e .1 .placed) (x .1 .0) (e .1 .enters)
+          (and-r (s .versFit) (e .1 .placed) (sym (e .1 .fits) ∙ h .0)) u (longer-then _ _ _ (h .1) l) ∙ sym (r .2 q ∙ k)),
+    )
     first (v ∷ vs) q r o k = r .1 ∙ or-r (e .0 .twice) _ (ap nonEmpty q ∙ (unfold nonEmpty in refl))
 
 -- ---- the versions up to "end"

@@ -76,7 +76,7 @@ module _ (t : Text) (at a : ℕ) (c₀ : Bool) (Q : Name → Type 0) (n : Answer
     unfolding add-spec _>>=_ _>>_ andThen
     spec-no-provides there z f x =
         let w : add-spec (drop at t) ≡ none =
-            rw (named .is, ap (λ (j : Token). want j (drop a t)) (sym provides-key) ∙ k .no (not-true k₀ x)) in
+        rw (named .is, ap (λ (j : Token). want j (drop a t)) (sym provides-key) ∙ k .no (not-true k₀ x)) in
         spec-none there z f w
 
     module _ (x : notᵇ k₀ ≡ false) (p₀ : Bool) (e : ℕ) (Q′ : List Name → Type 0) (p : Answers (namesUpTo semicolon) Q′ t b p₀ e) where
@@ -213,8 +213,10 @@ module _ (t : Tables) (hc : length (t .comps) ≤ components) (hv : length (t .v
         numbered : (k k′ : ℕ) (l l′ : List ℕ) (m m′ : List (ℕ × List ℕ)) (j j′ : ℕ) → k ≡ k′ → l ≡ l′ → m ≡ m′ → j ≡ j′
             → ADD-SPEC k l m j ≡ ADD-SPEC k′ l′ m′ j′
         numbered k k′ l l′ m m′ j j′ e f g h = rw (e, f, g, h)
+
         start : (l : List (ℕ × List ℕ)) → foldOn setsStep (specStart (t .vers) facs₁ fit .sets) l ≡ foldOn setsStep nothing l
         start l = unfold specStart in refl
+
         standard : number (s′ .vers) w ≡ s′ .standard
         standard =
             subst (StandardIs s′) (b .one)
@@ -247,11 +249,15 @@ spec-asked t at a b e c₀ k₀ p₀ C C′ W W′ F F₁ F′ j set placed fit 
   where
     tables : Tables
     tables = tablesOf C W F i
+
     hc : length (tableOf components C) ≤ components
     hc = table-length components C
+
     hv : length (tableOf versions W) ≤ versions
     hv = table-length versions W
+
     hf : length (tableOf facilities F) ≤ facilities
     hf = table-length facilities F
+
     hi : length (tableOf implementations i) ≤ implementations
     hi = table-length implementations i

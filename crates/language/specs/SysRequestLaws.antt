@@ -82,7 +82,7 @@ module _ (t : Text) (at a : ℕ) (c₀ : Bool) (Q : Name → Type 0) (n : Answer
     unfolding add-sys _>>=_ _>>_ andThen
     sys-no-use there z f x =
         let w : add-sys (drop at t) ≡ none =
-            rw (cited .is, ap (λ (j : Token). want j (drop a t)) (sym use-key) ∙ k .no (not-true k₀ x)) in
+        rw (cited .is, ap (λ (j : Token). want j (drop a t)) (sym use-key) ∙ k .no (not-true k₀ x)) in
         sys-none there z f w
 
     module _ (x : notᵇ k₀ ≡ false) (u₀ : Bool) (e : ℕ) (Q′ : List Name → Type 0) (u : Answers (listOf comma name) Q′ t b u₀ e) where
@@ -119,7 +119,7 @@ module _ (t : Text) (at a : ℕ) (c₀ : Bool) (Q : Name → Type 0) (n : Answer
             unfolding add-sys names _>>=_ _>>_ andThen
             sys-no-end there h f m =
                 let r : add-sys (drop at t) ≡ none =
-                    rw (cited .is, uses, usable .is, marked .is, listed .is, ap (λ (g : Token). want g (drop j t)) (sym end-key) ∙ d .no (not-true d₀ m)) in
+                rw (cited .is, uses, usable .is, marked .is, listed .is, ap (λ (g : Token). want g (drop j t)) (sym end-key) ∙ d .no (not-true d₀ m)) in
                 sys-none there h f r
 
             sys-read : notᵇ d₀ ≡ false → ((c : Name) (us : List Name) (ks : List (Name × NamedMembers)) → Q c → Q′ us → Q″ ks → R (SYS c us ks))
@@ -217,7 +217,7 @@ unfolding numberedMembers membersOf memberStart
 sys-all s s′ xs e y = numbered-all SysStep sysTables (λ s. s .compsFit & s .versFit) (λ s. s .compositions) sysNum compositionsStep (λ y. true)
     (λ s s′ x f o.
     (let all = member-all (memberStart (s .comps) (f .between) (s .compsFit) (s .versFit & f .placed)) (f .last) (x .1) (f .members)
-        (and-in _ _ (sym (f .comps-fit) ∙ and-l _ _ o) (sym (f .vers-fit) ∙ and-r _ _ o)) in
+    (and-in _ _ (sym (f .comps-fit) ∙ and-l _ _ o) (sym (f .vers-fit) ∙ and-r _ _ o)) in
     let b = and-r (s .versFit) (f .placed) (and-r _ _ (all .before)) in
     let lc = subst (λ (u : Table). Longer (s .comps) u) (sym (f .comps)) (all .later .comps) in
     let lv = subst (λ (u : Table). Longer (f .between) u) (sym (f .vers)) (all .later .vers) in
@@ -320,13 +320,18 @@ sys-asked t at a b e i j z c₀ k₀ u₀ q₀ v₀ d₀ C C₁ C₂ C′ W W′
   where
     tables : Tables
     tables = tablesOf C W f o
+
     after′ : Tables
     after′ = tablesOf C′ W′ f o
+
     hc : length (tableOf components C) ≤ components
     hc = table-length components C
+
     hv : length (tableOf versions W) ≤ versions
     hv = table-length versions W
+
     hf : length (tableOf facilities f) ≤ facilities
     hf = table-length facilities f
+
     hi : length (tableOf implementations o) ≤ implementations
     hi = table-length implementations o

@@ -69,7 +69,7 @@ module _ (t : Text) (at a : ℕ) (p₀ : Bool) (Q : Name × Name → Type 0) (p 
         unfolding add-sysvar compos _>>=_ _>>_ andThen
         sysvar-no-end there i f o =
             let u : add-sysvar (drop at t) ≡ none =
-                rw (paired .is, marked .is, listed .is, ap (λ (j : Token). want j (drop e t)) (sym end-key) ∙ d .no (not-true d₀ o)) in
+            rw (paired .is, marked .is, listed .is, ap (λ (j : Token). want j (drop e t)) (sym end-key) ∙ d .no (not-true d₀ o)) in
             sysvar-none there i f u
 
         sysvar-read : notᵇ d₀ ≡ false → ((c : Name × Name) (ms : NamedMembers) → Q c → Q′ ms → R (SYSVAR (c .0) (c .1) ms))
@@ -151,13 +151,18 @@ sysvar-asked t at a b e z p₀ k₀ m₀ d₀ C C₁ C′ W W₁ W′ g start m 
   where
     tables : Tables
     tables = tablesOf C W f i
+
     after′ : Tables
     after′ = tablesOf C′ W′ f i
+
     hc : length (tableOf components C) ≤ components
     hc = table-length components C
+
     hv : length (tableOf versions W) ≤ versions
     hv = table-length versions W
+
     hf : length (tableOf facilities f) ≤ facilities
     hf = table-length facilities f
+
     hi : length (tableOf implementations i) ≤ implementations
     hi = table-length implementations i

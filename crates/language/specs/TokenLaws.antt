@@ -302,6 +302,7 @@ ahead-there k t u (token j v) e =
   where
     only-yes : isToken k j ≡ true → onlyIf {A = Unit {0} × Text} (isToken k j) (tt, v) ≡ some (tt, v)
     only-yes b = ap (λ (z : Bool). onlyIf {A = Unit {0} × Text} z (tt, v)) b
+
     only-not : isToken k j ≡ false → onlyIf {A = Unit {0} × Text} (isToken k j) (tt, v) ≡ none
     only-not b = ap (λ (z : Bool). onlyIf {A = Unit {0} × Text} z (tt, v)) b
 ahead-there k t u end e = no-some e

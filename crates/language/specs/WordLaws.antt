@@ -193,7 +193,7 @@ module _ (t : Text) (at : ℕ) (r : Token) (s : Reads t at (nextToken (drop at t
     command-word n z p d = elim (bool? (keyNumber here == 10)) [
       | inl b ↦ (let m : n ≡ 29 = p ∙ if-true _ _ _ b in
           let w : same here (bytes "quit") ≡ true =
-              ap (same here) (sym quit-at ∙ key-name here 10 (==-out _ _ b) (omega arith)) ∙ same-refl here in
+          ap (same here) (sym quit-at ∙ key-name here 10 (==-out _ _ b) (omega arith)) ∙ same-refl here in
           record {
             ends = λ h. worded ∙ if-true _ _ _ w;
             none-there = λ h. absurd (omega arith);

@@ -38,10 +38,15 @@ pub struct Step {
 
 // The numbers of the keywords that stand within a command.
 const END: usize = 3;
+
 const PROVIDES: usize = 12;
+
 const STD: usize = 13;
+
 const REQUIRES: usize = 14;
+
 const IMPL: usize = 17;
+
 const USE: usize = 19;
 
 // ---- tokens
@@ -52,11 +57,31 @@ fn next_word(text: &[u8], at: usize) -> Part
     ensures { λ r. ⌜ Answers anyWord (PartOf (now (text .entry)) (r .start) (r .end)) (now (text .entry)) at (r .there) (r .end) ⌝ }
 {
     match words::next_token(text, at) {
-        words::Token::Word(a, e) => Part { there: true, start: a, end: e },
-        words::Token::Quoted(_, _) => Part { there: false, start: at, end: at },
-        words::Token::Mark(_, _) => Part { there: false, start: at, end: at },
-        words::Token::End => Part { there: false, start: at, end: at },
-        words::Token::Bad => Part { there: false, start: at, end: at },
+        words::Token::Word(a, e) => Part {
+            there: true,
+            start: a,
+            end: e,
+        },
+        words::Token::Quoted(_, _) => Part {
+            there: false,
+            start: at,
+            end: at,
+        },
+        words::Token::Mark(_, _) => Part {
+            there: false,
+            start: at,
+            end: at,
+        },
+        words::Token::End => Part {
+            there: false,
+            start: at,
+            end: at,
+        },
+        words::Token::Bad => Part {
+            there: false,
+            start: at,
+            end: at,
+        },
     }
 }
 
@@ -66,11 +91,31 @@ fn read_imp(text: &[u8], at: usize) -> Part
     ensures { λ r. ⌜ Answers imp (PartOf (now (text .entry)) (r .start) (r .end)) (now (text .entry)) at (r .there) (r .end + 1) ⌝ }
 {
     match words::next_token(text, at) {
-        words::Token::Quoted(a, e) => Part { there: true, start: a, end: e },
-        words::Token::Word(_, _) => Part { there: false, start: at, end: at },
-        words::Token::Mark(_, _) => Part { there: false, start: at, end: at },
-        words::Token::End => Part { there: false, start: at, end: at },
-        words::Token::Bad => Part { there: false, start: at, end: at },
+        words::Token::Quoted(a, e) => Part {
+            there: true,
+            start: a,
+            end: e,
+        },
+        words::Token::Word(_, _) => Part {
+            there: false,
+            start: at,
+            end: at,
+        },
+        words::Token::Mark(_, _) => Part {
+            there: false,
+            start: at,
+            end: at,
+        },
+        words::Token::End => Part {
+            there: false,
+            start: at,
+            end: at,
+        },
+        words::Token::Bad => Part {
+            there: false,
+            start: at,
+            end: at,
+        },
     }
 }
 
@@ -80,11 +125,26 @@ fn want_mark(text: &[u8], at: usize, c: u8) -> Step
     ensures { λ r. ⌜ Answers (want (mark c)) Any (now (text .entry)) at (r .there) (r .end) ⌝ }
 {
     match words::next_token(text, at) {
-        words::Token::Mark(d, e) => Step { there: d == c, end: e },
-        words::Token::Word(_, _) => Step { there: false, end: at },
-        words::Token::Quoted(_, _) => Step { there: false, end: at },
-        words::Token::End => Step { there: false, end: at },
-        words::Token::Bad => Step { there: false, end: at },
+        words::Token::Mark(d, e) => Step {
+            there: d == c,
+            end: e,
+        },
+        words::Token::Word(_, _) => Step {
+            there: false,
+            end: at,
+        },
+        words::Token::Quoted(_, _) => Step {
+            there: false,
+            end: at,
+        },
+        words::Token::End => Step {
+            there: false,
+            end: at,
+        },
+        words::Token::Bad => Step {
+            there: false,
+            end: at,
+        },
     }
 }
 
@@ -110,11 +170,17 @@ fn want_key(text: &[u8], at: usize, k: usize) -> Step
 {
     let w = next_word(text, at);
     if !w.there {
-        return Step { there: false, end: at };
+        return Step {
+            there: false,
+            end: at,
+        };
     }
     let a = w.start;
     let e = w.end;
-    Step { there: keyword_between(text, a, e) == k, end: e }
+    Step {
+        there: keyword_between(text, a, e) == k,
+        end: e,
+    }
 }
 
 // Whether the keyword with the number k comes next; the position behind it if it does.
@@ -125,9 +191,15 @@ fn pass_key(text: &[u8], at: usize, k: usize) -> Step
 {
     let s = want_key(text, at, k);
     if s.there {
-        return Step { there: true, end: s.end };
+        return Step {
+            there: true,
+            end: s.end,
+        };
     }
-    Step { there: false, end: at }
+    Step {
+        there: false,
+        end: at,
+    }
 }
 
 // Whether the mark c comes next; the position behind it if it does.
@@ -137,9 +209,15 @@ fn pass_mark(text: &[u8], at: usize, c: u8) -> Step
 {
     let s = want_mark(text, at, c);
     if s.there {
-        return Step { there: true, end: s.end };
+        return Step {
+            there: true,
+            end: s.end,
+        };
     }
-    Step { there: false, end: at }
+    Step {
+        there: false,
+        end: at,
+    }
 }
 
 // Whether the word from a to e is a name.
@@ -157,11 +235,19 @@ fn read_name(text: &[u8], at: usize) -> Part
 {
     let w = next_word(text, at);
     if !w.there {
-        return Part { there: false, start: at, end: at };
+        return Part {
+            there: false,
+            start: at,
+            end: at,
+        };
     }
     let a = w.start;
     let e = w.end;
-    Part { there: is_name_between(text, a, e), start: a, end: e }
+    Part {
+        there: is_name_between(text, a, e),
+        start: a,
+        end: e,
+    }
 }
 
 // ---- names put into a table
@@ -181,9 +267,15 @@ fn enter_part(names: &mut [u8], places: usize, text: &[u8], a: usize, e: usize) 
     ensures { λ r. ⌜ Enters places (tableOf places (now (names .entry))) (tableOf places (now (names .exit))) (r .number) (r .room) (part (now (text .entry)) a e) ⌝ }
 {
     let names::Found::At(k) = names::enter(names, places, words::word(text, a, e)) else {
-        return Entry { number: 0, room: false };
+        return Entry {
+            number: 0,
+            room: false,
+        };
     };
-    Entry { number: k, room: true }
+    Entry {
+        number: k,
+        room: true,
+    }
 }
 
 // A name that was read and put into its table, if `there`: the position behind it and its place.
@@ -203,12 +295,22 @@ fn take_name(names: &mut [u8], places: usize, text: &[u8], at: usize) -> Taken
 {
     let w = read_name(text, at);
     if !w.there {
-        return Taken { there: false, end: at, number: 0, room: true };
+        return Taken {
+            there: false,
+            end: at,
+            number: 0,
+            room: true,
+        };
     }
     let a = w.start;
     let e = w.end;
     let n = enter_part(names, places, text, a, e);
-    Taken { there: true, end: e, number: n.number, room: n.room }
+    Taken {
+        there: true,
+        end: e,
+        number: n.number,
+        room: n.room,
+    }
 }
 
 // An implementation, put into the table if it is new.
@@ -220,12 +322,22 @@ fn take_imp(names: &mut [u8], places: usize, text: &[u8], at: usize) -> Taken
 {
     let w = read_imp(text, at);
     if !w.there {
-        return Taken { there: false, end: at, number: 0, room: true };
+        return Taken {
+            there: false,
+            end: at,
+            number: 0,
+            room: true,
+        };
     }
     let a = w.start;
     let e = w.end;
     let n = enter_part(names, places, text, a, e);
-    Taken { there: true, end: e + 1, number: n.number, room: n.room }
+    Taken {
+        there: true,
+        end: e + 1,
+        number: n.number,
+        room: n.room,
+    }
 }
 
 // ---- facilities
@@ -247,10 +359,20 @@ fn take_facility(facs: &mut [u8], text: &[u8], at: usize, set: u64, room: bool) 
 {
     let n = take_name(facs, 64, text, at);
     if !n.there {
-        return Facilities { there: false, end: at, set: set, room: room };
+        return Facilities {
+            there: false,
+            end: at,
+            set: set,
+            room: room,
+        };
     }
     let number = n.number;
-    Facilities { there: true, end: n.end, set: sets::with(set, number), room: room & n.room }
+    Facilities {
+        there: true,
+        end: n.end,
+        set: sets::with(set, number),
+        room: room & n.room,
+    }
 }
 
 // facs = fac {"," fac}: the set with their numbers.
@@ -288,7 +410,12 @@ fn take_requirements(facs: &mut [u8], text: &[u8], at: usize, room: bool) -> Fac
 {
     let k = want_key(text, at, REQUIRES);
     if !k.there {
-        return Facilities { there: true, end: at, set: 0, room: room };
+        return Facilities {
+            there: true,
+            end: at,
+            set: 0,
+            room: room,
+        };
     }
     let e = k.end;
     take_facilities(facs, text, e, 0, room)
@@ -303,7 +430,12 @@ fn take_provided(facs: &mut [u8], text: &[u8], at: usize) -> Facilities
 {
     let k = want_mark(text, at, 59);
     if k.there {
-        return Facilities { there: true, end: k.end, set: 0, room: true };
+        return Facilities {
+            there: true,
+            end: k.end,
+            set: 0,
+            room: true,
+        };
     }
     let n = take_facilities(facs, text, at, 0, true);
     if !n.there {
@@ -311,7 +443,12 @@ fn take_provided(facs: &mut [u8], text: &[u8], at: usize) -> Facilities
     }
     let e = n.end;
     let m = want_mark(text, e, 59);
-    Facilities { there: m.there, end: m.end, set: n.set, room: n.room }
+    Facilities {
+        there: m.there,
+        end: m.end,
+        set: n.set,
+        room: n.room,
+    }
 }
 
 // ---- a specification
@@ -332,11 +469,7 @@ pub struct SpecVersions {
 fn either(b: bool, x: usize, y: usize) -> usize
     ensures { λ r. ⌜ r ≡ (if b then x else y) ⌝ }
 {
-    if b {
-        x
-    } else {
-        y
-    }
+    if b { x } else { y }
 }
 
 // The version v, with "std" or without, that requires q.
@@ -357,7 +490,13 @@ fn with_spec_version(g: SpecVersions, std: bool, v: Taken, q: Facilities) -> Spe
 }
 
 // ["std"] vn ["requires" facs]
-fn take_spec_version(vers: &mut [u8], facs: &mut [u8], text: &[u8], at: usize, g: SpecVersions) -> SpecVersions
+fn take_spec_version(
+    vers: &mut [u8],
+    facs: &mut [u8],
+    text: &[u8],
+    at: usize,
+    g: SpecVersions,
+) -> SpecVersions
     requires { ⌜ Kept versions (now vers) ⌝ }
     requires { ⌜ Kept facilities (now facs) ⌝ }
     requires { ⌜ at ≤ length (now text) ⌝ }
@@ -382,7 +521,13 @@ fn take_spec_version(vers: &mut [u8], facs: &mut [u8], text: &[u8], at: usize, g
 }
 
 // ["std"] vn ["requires" facs] {";" ["std"] vn ["requires" facs]}
-fn take_spec_versions(vers: &mut [u8], facs: &mut [u8], text: &[u8], at: usize, start: SpecVersions) -> SpecVersions
+fn take_spec_versions(
+    vers: &mut [u8],
+    facs: &mut [u8],
+    text: &[u8],
+    at: usize,
+    start: SpecVersions,
+) -> SpecVersions
     requires { ⌜ Kept versions (now vers) ⌝ }
     requires { ⌜ Kept facilities (now facs) ⌝ }
     requires { ⌜ at ≤ length (now text) ⌝ }
@@ -433,7 +578,13 @@ fn ended(v: SpecVersions, m: Step) -> SpecVersions
 }
 
 // The versions of a specification, up to "end".
-fn take_spec_body(vers: &mut [u8], facs: &mut [u8], text: &[u8], at: usize, room: bool) -> SpecVersions
+fn take_spec_body(
+    vers: &mut [u8],
+    facs: &mut [u8],
+    text: &[u8],
+    at: usize,
+    room: bool,
+) -> SpecVersions
     requires { ⌜ Kept versions (now vers) ⌝ }
     requires { ⌜ Kept facilities (now facs) ⌝ }
     requires { ⌜ at ≤ length (now text) ⌝ }
@@ -491,7 +642,13 @@ fn spec_request(c: Taken, p: Facilities, v: SpecVersions) -> SpecRequest
 
 // add-spec = "spec" cn "provides" [facs] ";" ["std"] vn ["requires" facs] {";" ["std"] vn ["requires" facs]} "end", from behind "spec".
 // The names are put into the tables that are lent: the caller throws these away where there was no room, or the command is refused.
-pub fn read_spec(comps: &mut [u8], vers: &mut [u8], facs: &mut [u8], text: &[u8], at: usize) -> SpecRequest
+pub fn read_spec(
+    comps: &mut [u8],
+    vers: &mut [u8],
+    facs: &mut [u8],
+    text: &[u8],
+    at: usize,
+) -> SpecRequest
     requires { ⌜ Kept components (now comps) ⌝ }
     requires { ⌜ Kept versions (now vers) ⌝ }
     requires { ⌜ Kept facilities (now facs) ⌝ }
@@ -550,7 +707,13 @@ fn with_mod_version(g: ModVersions, v: Taken, i: Taken) -> ModVersions
 }
 
 // vn "impl" imp
-fn take_mod_version(vers: &mut [u8], impls: &mut [u8], text: &[u8], at: usize, g: ModVersions) -> ModVersions
+fn take_mod_version(
+    vers: &mut [u8],
+    impls: &mut [u8],
+    text: &[u8],
+    at: usize,
+    g: ModVersions,
+) -> ModVersions
     requires { ⌜ Kept versions (now vers) ⌝ }
     requires { ⌜ Kept implementations (now impls) ⌝ }
     requires { ⌜ at ≤ length (now text) ⌝ }
@@ -578,7 +741,13 @@ fn take_mod_version(vers: &mut [u8], impls: &mut [u8], text: &[u8], at: usize, g
 }
 
 // vn "impl" imp {";" vn "impl" imp}
-fn take_mod_versions(vers: &mut [u8], impls: &mut [u8], text: &[u8], at: usize, start: ModVersions) -> ModVersions
+fn take_mod_versions(
+    vers: &mut [u8],
+    impls: &mut [u8],
+    text: &[u8],
+    at: usize,
+    start: ModVersions,
+) -> ModVersions
     requires { ⌜ Kept versions (now vers) ⌝ }
     requires { ⌜ Kept implementations (now impls) ⌝ }
     requires { ⌜ at ≤ length (now text) ⌝ }
@@ -650,7 +819,13 @@ fn mod_request(c: Taken, v: ModVersions, end: usize) -> ModRequest
 }
 
 // add-mod = "mod" cn ";" vn "impl" imp {";" vn "impl" imp} "end", from behind "mod".
-pub fn read_mod(comps: &mut [u8], vers: &mut [u8], impls: &mut [u8], text: &[u8], at: usize) -> ModRequest
+pub fn read_mod(
+    comps: &mut [u8],
+    vers: &mut [u8],
+    impls: &mut [u8],
+    text: &[u8],
+    at: usize,
+) -> ModRequest
     requires { ⌜ Kept components (now comps) ⌝ }
     requires { ⌜ Kept versions (now vers) ⌝ }
     requires { ⌜ Kept implementations (now impls) ⌝ }
@@ -781,7 +956,14 @@ fn modvar_request(p: PairTaken, q: Facilities, i: Taken) -> ModvarRequest
 }
 
 // add-modvar = "modvar" cn "." vn ["requires" facs] "impl" imp, from behind "modvar".
-pub fn read_modvar(comps: &mut [u8], vers: &mut [u8], facs: &mut [u8], impls: &mut [u8], text: &[u8], at: usize) -> ModvarRequest
+pub fn read_modvar(
+    comps: &mut [u8],
+    vers: &mut [u8],
+    facs: &mut [u8],
+    impls: &mut [u8],
+    text: &[u8],
+    at: usize,
+) -> ModvarRequest
     requires { ⌜ Kept components (now comps) ⌝ }
     requires { ⌜ Kept versions (now vers) ⌝ }
     requires { ⌜ Kept facilities (now facs) ⌝ }
@@ -869,7 +1051,13 @@ fn take_member(comps: &mut [u8], vers: &mut [u8], text: &[u8], at: usize, g: Mem
 }
 
 // compos = cn ["." vn] {"," cn ["." vn]}
-fn take_members(comps: &mut [u8], vers: &mut [u8], text: &[u8], at: usize, start: Members) -> Members
+fn take_members(
+    comps: &mut [u8],
+    vers: &mut [u8],
+    text: &[u8],
+    at: usize,
+    start: Members,
+) -> Members
     requires { ⌜ Kept components (now comps) ⌝ }
     requires { ⌜ Kept versions (now vers) ⌝ }
     requires { ⌜ at ≤ length (now text) ⌝ }
@@ -1056,7 +1244,13 @@ fn with_sys_version(g: SysVersions, v: Taken, m: Members) -> SysVersions
 }
 
 // vn "=" compos
-fn take_sys_version(comps: &mut [u8], vers: &mut [u8], text: &[u8], at: usize, g: SysVersions) -> SysVersions
+fn take_sys_version(
+    comps: &mut [u8],
+    vers: &mut [u8],
+    text: &[u8],
+    at: usize,
+    g: SysVersions,
+) -> SysVersions
     requires { ⌜ Kept components (now comps) ⌝ }
     requires { ⌜ Kept versions (now vers) ⌝ }
     requires { ⌜ at ≤ length (now text) ⌝ }
@@ -1076,7 +1270,13 @@ fn take_sys_version(comps: &mut [u8], vers: &mut [u8], text: &[u8], at: usize, g
         return wrong;
     }
     let b = k.end;
-    let m = take_members(comps, vers, text, b, no_named_members(g.comps, g.vers & v.room));
+    let m = take_members(
+        comps,
+        vers,
+        text,
+        b,
+        no_named_members(g.comps, g.vers & v.room),
+    );
     if !m.there {
         return wrong;
     }
@@ -1084,7 +1284,13 @@ fn take_sys_version(comps: &mut [u8], vers: &mut [u8], text: &[u8], at: usize, g
 }
 
 // vn "=" compos {";" vn "=" compos}
-fn take_sys_versions(comps: &mut [u8], vers: &mut [u8], text: &[u8], at: usize, start: SysVersions) -> SysVersions
+fn take_sys_versions(
+    comps: &mut [u8],
+    vers: &mut [u8],
+    text: &[u8],
+    at: usize,
+    start: SysVersions,
+) -> SysVersions
     requires { ⌜ Kept components (now comps) ⌝ }
     requires { ⌜ Kept versions (now vers) ⌝ }
     requires { ⌜ at ≤ length (now text) ⌝ }

@@ -83,7 +83,7 @@ unfolding foldOn with elem
 with-all s [] i = sym (or-nothing (s i))
 with-all s (k ∷ ks) i = with-all (with s k) ks i ∙ or-turn (i == k) (s i) (elem i ks)
 
-with-none : (ks : List ℕ) → foldOn with (bit 0) ks ≡ setOf ks
+pub with-none : (ks : List ℕ) → foldOn with (bit 0) ks ≡ setOf ks
 unfolding setOf _or_
 with-none ks = fun-ext (λ i. with-all (bit 0) ks i ∙ ap (λ (b : Bool). b or elem i ks) (bit-zero i))
 

@@ -6,6 +6,7 @@ pub mod ModSteps
 pub mod MemberSteps
 pub mod SysSteps
 pub mod Words
+pub mod Choices
 pub mod Requested
 pub mod Growth
 pub mod TokenLaws
@@ -25,3 +26,4 @@ pub mod SysvarLaws
 pub mod SysLaws
 pub mod SysRequestLaws
 pub mod WordLaws
+pub mod ChoiceLaws

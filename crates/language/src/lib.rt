@@ -5,7 +5,9 @@ ghost use mathlib.Core.List.{List};
 ghost use Prim.Native.Nat.{ℕ, _+_, _<_, _≤_};
 ghost use lib.ListN.{length};
 ghost use Rattle.text.specs.Bytes.{nameWord, short};
-ghost use Rattle.names.specs.Stored.{tableOf, tablesOf};
+ghost use Rattle.names.specs.Stored.{answered, tableOf, tablesOf};
+ghost use Rattle.text.specs.Tables.{place};
+ghost use Rattle.language.specs.Choices.{ChoiceAsked, KnownStep};
 ghost use Rattle.language.specs.Requested.{SpecAsked, SpecMade, ModAsked, ModMade, ModvarAsked, ModvarMade, PairEnters, PairMade, SysvarAsked, SysvarMade, SysAsked, SysMade};
 ghost use Rattle.language.specs.Words.{CommandAt, OneSaid, PairSaid, commandNumber};
 ghost use Rattle.language.specs.SysSteps.{SysStep, SysWith, UsableStart, UsableStep, sysStart, sysState};
@@ -18,7 +20,7 @@ ghost use Rattle.sets.specs.Sets.{bit};
 ghost use Rattle.language.specs.Steps.{Each, FacilityStep};
 ghost use Rattle.language.specs.Asked.{SpecBody, SpecEnds, SpecStep, SpecWith, specBody, specStart, specState};
 ghost use Rattle.language.specs.Entering.{Enters, Kept};
-ghost use Rattle.text.specs.Language.{Name, Said, add-mod, add-modvar, add-spec, add-sys, add-sysvar, ahead, comma, compo, imp, listOf, modVersion, name, namesUpTo, ofOne, ofPair, pair, requirements, semicolon, specVersion, sysVersion, want};
+ghost use Rattle.text.specs.Language.{Name, Said, add-mod, add-modvar, add-spec, add-sys, add-sysvar, ahead, choice, comma, compo, imp, listOf, modVersion, name, namesUpTo, ofOne, ofPair, pair, requirements, semicolon, specVersion, sysVersion, want};
 ghost use Rattle.text.specs.Tokens.{mark};
 ghost use Rattle.words.specs.Reading.{part};
 ghost use Rattle.language.specs.Readers.{Answers, Any, Got, PartOf, Span, Told, anyWord, keyAt, keyNumber};
@@ -1468,6 +1470,111 @@ pub fn read_pair(text: &[u8], at: usize) -> Parts
         end: c.end,
         from: v.start,
         to: v.end,
+    }
+}
+
+// Facilities that were looked up, if `there`: the set of their numbers, if each has one (`known`).
+pub struct Known {
+    pub there: bool,
+    pub end: usize,
+    pub set: u64,
+    pub known: bool,
+}
+
+// The place of the part of the text from a to e.
+fn lookup_part(facs: &[u8], text: &[u8], a: usize, e: usize) -> names::Found
+    requires { ⌜ Kept facilities (now facs) ⌝ }
+    requires { ⌜ Span (now text) a e ⌝ }
+    requires { ⌜ short (part (now text) a e) ≡ true ⌝ }
+    ensures { λ r. ⌜ answered r ≡ place (tableOf facilities (now (facs .entry))) (part (now (text .entry)) a e) ⌝ }
+{
+    names::lookup(facs, 64, words::word(text, a, e))
+}
+
+// A facility, looked up.
+fn take_known(facs: &[u8], text: &[u8], at: usize, set: u64, known: bool) -> Known
+    requires { ⌜ Kept facilities (now facs) ⌝ }
+    requires { ⌜ at ≤ length (now text) ⌝ }
+    ensures { λ r. ⌜ Answers name (KnownStep (tableOf facilities (now (facs .entry))) (bit set, known) (bit (r .set), r .known)) (now (text .entry)) at (r .there) (r .end) ⌝ }
+{
+    let w = read_name(text, at);
+    if !w.there {
+        return Known {
+            there: false,
+            end: at,
+            set: set,
+            known: known,
+        };
+    }
+    let a = w.start;
+    let e = w.end;
+    let names::Found::At(k) = lookup_part(facs, text, a, e) else {
+        return Known {
+            there: true,
+            end: e,
+            set: set,
+            known: false,
+        };
+    };
+    Known {
+        there: true,
+        end: e,
+        set: sets::with(set, k),
+        known: known,
+    }
+}
+
+// facs = fac {"," fac}, looked up.
+fn take_all_known(facs: &[u8], text: &[u8], at: usize) -> Known
+    requires { ⌜ Kept facilities (now facs) ⌝ }
+    requires { ⌜ at ≤ length (now text) ⌝ }
+    ensures { λ r. ⌜ Answers (listOf comma name) (Each (KnownStep (tableOf facilities (now (facs .entry)))) (bit 0, true) (bit (r .set), r .known)) (now (text .entry)) at (r .there) (r .end) ⌝ }
+{
+    let mut i = at;
+    let mut s = 0;
+    let mut known = true;
+    loop {
+        let n = take_known(facs, text, i, s, known);
+        if !n.there {
+            return n;
+        }
+        let e = n.end;
+        let m = want_mark(text, e, 44);
+        if !m.there {
+            return n;
+        }
+        i = m.end;
+        s = n.set;
+        known = n.known;
+    }
+}
+
+// "choice" [facs] "end", from behind "choice".
+pub fn read_choice(facs: &[u8], text: &[u8], at: usize) -> Known
+    requires { ⌜ Kept facilities (now facs) ⌝ }
+    requires { ⌜ at ≤ length (now text) ⌝ }
+    ensures { λ r. ⌜ Answers choice (ChoiceAsked (tableOf facilities (now (facs .entry))) r) (now (text .entry)) at (r .there) (r .end) ⌝ }
+{
+    let k = want_key(text, at, END);
+    if k.there {
+        return Known {
+            there: true,
+            end: k.end,
+            set: 0,
+            known: true,
+        };
+    }
+    let n = take_all_known(facs, text, at);
+    if !n.there {
+        return n;
+    }
+    let e = n.end;
+    let m = want_key(text, e, END);
+    Known {
+        there: m.there,
+        end: m.end,
+        set: n.set,
+        known: n.known,
     }
 }
 

@@ -1,19 +1,20 @@
 -- Facilities read one after the other: the table, the room and the set are those of the whole list.
 use mathlib.Core.Bool.{Bool, false, true}
-use mathlib.Core.List.{List, [], _++_, _∷_, map}
-use mathlib.Core.Path.{_∙_, _≡_, ap, ap₂, fun-ext, refl, subst, sym}
+use mathlib.Core.List.{List, [], _∷_, map}
+use mathlib.Core.Path.{_∙_, _≡_, ap, fun-ext, refl, subst, sym}
 use Prim.Native.Nat.{_≤_, ℕ}
 use lib.ListN.{length}
+use Rattle.requests.specs.GatheredLaws.{or-nothing}
 use Rattle.model.specs.Book.{facilities}
-use Rattle.model.specs.Lists.{elem, every, setOf}
+use Rattle.model.specs.Lists.{elem, setOf}
 use Rattle.model.specs.Questions.{eachBelow}
 use Rattle.sets.specs.SetLaws.{bit-zero}
 use Rattle.sets.specs.Sets.{Set, bit, with}
 use Rattle.sets.specs.TestLaws.{<?-in, and-l, and-r}
-use Rattle.sets.specs.Tests.{_&_, _<?_, _==_, _or_}
+use Rattle.sets.specs.Tests.{_<?_, _==_, _or_}
 use Rattle.text.specs.Language.{Name}
 use Rattle.text.specs.Tables.{Table, Tables, joined, number, numbers}
-use Rattle.language.specs.Growth.{Grows, Later, Longer, NumberedAll, NumberedOne, foldOn}
+use Rattle.language.specs.Growth.{Grows, Later, Longer, NumberedAll, foldOn}
 use Rattle.language.specs.GrowthLaws.{enters-below, enters-longer, enters-number, grows-each, grows-one, longer-none, numbered-all}
 use Rattle.language.specs.Steps.{Each, Facilities, FacilityStep}
 
@@ -72,11 +73,6 @@ unfolding _or_
 or-turn true true c = refl
 or-turn true false c = refl
 or-turn false b c = refl
-
-or-nothing : (a : Bool) → (a or false) ≡ a
-unfolding _or_
-or-nothing true = refl
-or-nothing false = refl
 
 with-all : (s : Set) (ks : List ℕ) (i : ℕ) → foldOn with s ks i ≡ (s i or elem i ks)
 unfolding foldOn with elem

@@ -1,11 +1,11 @@
 -- The versions of a specification read one after the other: tables, room, request and standard version are those of the whole list.
-use mathlib.Core.Bool.{Bool, false, true}
-use mathlib.Core.List.{List, [], _++_, _∷_, map}
-use mathlib.Core.Bool.{not as notᵇ}
+use mathlib.Core.Bool.{Bool, false, true, not as notᵇ}
+use mathlib.Core.List.{List, [], _∷_, map}
 use mathlib.Core.Logic.{inl, inr}
 use mathlib.Core.Option.{none, some}
 use native.Mathlib.Omega.{arith}
 use borrow.Author.Tests.{not-false, not-true}
+use Rattle.requests.specs.GatheredLaws.{or-nothing}
 use Rattle.model.specs.Maps.{andThen}
 use Rattle.text.specs.Bytes.{Text, bytes, keywords}
 use Rattle.text.specs.Language.{_>>=_, _>>_, give, key, listOf, semicolon, specVersion, theOne, want}
@@ -18,18 +18,17 @@ use Prim.Native.Nat.{_≤_, ℕ}
 use lib.ListN.{drop, length}
 use Rattle.model.specs.Book.{facilities, versions}
 use Rattle.model.specs.Lists.{nonEmpty}
-use Rattle.requests.specs.Gathered.{Gathered, gather, nothing, step}
-use Rattle.requests.specs.Said.{setsOf, setsStep}
-use Rattle.sets.specs.Sets.{Set, bit}
+use Rattle.requests.specs.Said.{setsStep}
+use Rattle.sets.specs.Sets.{bit}
 use Rattle.sets.specs.TestLaws.{and-false, and-in, and-l, and-r, and-true, bool?, clash, if-false, if-true, not-in, not-out, or-l, or-r}
-use Rattle.sets.specs.Tests.{_&_, _or_, if_then_else_, ~_}
+use Rattle.sets.specs.Tests.{_&_, _or_, ~_}
 use Rattle.text.specs.Language.{Name, standards}
 use Rattle.text.specs.Tables.{Table, Tables, joined, number, numbers}
 use Rattle.language.specs.Asked.{SpecBody, SpecEnds, SpecState, SpecStep, specBody, specStart, specState}
 use Rattle.language.specs.declared.SpecVersions.{SpecVersions}
 use Rattle.names.specs.Stored.{tableOf}
 use Rattle.language.specs.FacilityLaws.{facilities-are, facilities-grow, singles}
-use Rattle.language.specs.Growth.{Grows, Later, Longer, NumberedAll, NumberedOne, foldOn}
+use Rattle.language.specs.Growth.{Grows, Longer, NumberedAll}
 use Rattle.language.specs.GrowthLaws.{enters-longer, enters-number, grows-each, grows-one, longer-none, longer-same, longer-then, numbered-all}
 use Rattle.language.specs.Steps.{Each}
 
@@ -98,11 +97,6 @@ or-true : (a : Bool) → (a or true) ≡ true
 unfolding _or_
 or-true true = refl
 or-true false = refl
-
-or-nothing : (a : Bool) → (a or false) ≡ a
-unfolding _or_
-or-nothing true = refl
-or-nothing false = refl
 
 -- after one version with "std"
 after-found : (s s′ : SpecState) (xs : List Version) → Each SpecStep s s′ xs → s .found ≡ true

@@ -4,7 +4,7 @@ use mathlib.Core.Bool.{Bool, false, true}
 use mathlib.Core.List.{List, [], _∷_, map}
 use mathlib.Core.Option.{Option, none, some}
 use mathlib.Core.Path.{_∙_, _≡_, ap, ap₂, fun-ext, refl, sym}
-use Prim.Native.Nat.{_<_, suc, ℕ}
+use Prim.Native.Nat.{_<_, ℕ}
 use native.Mathlib.Omega.{arith}
 use lib.ListN.{length}
 use Rattle.book.specs.Changes.{withModule, withModvar, withSpec, withSystem, withSysvar}
@@ -24,6 +24,7 @@ use Rattle.sets.specs.Sets.{Set, disjoint, subset}
 use Rattle.sets.specs.TestLaws.{<?-out, ==-not, ==-same, all-cong, all-in, all-out, and-in, and-l, and-r, and-swap, any-cong, any-in, any-out, clash, count-none, count-strict}
 use Rattle.sets.specs.TestLaws.{fails, if-false, if-true, iff→≡, imp-in, imp-out, not-in, not-out, or-l, or-r}
 use Rattle.sets.specs.Tests.{_&_, _<?_, _==_, _or_, _⇔_, _≤?_, all, any, count, if_then_else_, ~_}
+use Rattle.theorems.specs.Accepted.{below-elem, length-firsts}
 use Rattle.theorems.specs.ListLaws.{beside-elem, beside-second, count-one-more, every-elem}
 use Rattle.theorems.specs.MapLaws.{if-there-cong, if-there-in, if-there-out, isSome-in}
 
@@ -57,10 +58,6 @@ entries-below n good full single what (x ∷ xs) =
 
 -- ---- numbers of a list
 
-elem-below : (n : ℕ) (xs : List ℕ) → eachBelow n xs ≡ true → (k : ℕ) → elem k xs ≡ true → k < n
-unfolding eachBelow
-elem-below n xs b k e = <?-out _ _ (every-elem _ xs b k e)
-
 pub every-listed : (t : ℕ → Bool) (xs : List ℕ) → ((k : ℕ) → elem k xs ≡ true → t k ≡ true) → every t xs ≡ true
 unfolding every elem
 every-listed t [] h = refl
@@ -80,11 +77,6 @@ unfolding nonEmpty firsts elem eachBelow every
 any-firsts n [] b = sym (fails _ (λ t. clash (any-out n (λ i. false) t .2) refl))
 any-firsts n (x ∷ xs) b = sym (any-in n _ (x .0) (<?-out _ _ (and-l _ _ b)) (or-l _ _ (==-same (x .0))))
 
-length-firsts : {A : Type 0} (xs : List (ℕ × A)) → length (firsts xs) ≡ length xs
-unfolding firsts
-length-firsts [] = refl
-length-firsts (x ∷ xs) = ap suc (length-firsts xs)
-
 -- what stands beside the numbers of a list in which none stands twice
 beside-each : {A : Type 0} (t : A → Bool) (xs : List (ℕ × A)) → once (firsts xs) ≡ true
     → ((v : ℕ) (a : A) → beside xs v ≡ some a → t a ≡ true) → every t (seconds xs) ≡ true
@@ -99,7 +91,7 @@ each-beside : {A : Type 0} (n : ℕ) (t : A → Bool) (xs : List (ℕ × A)) →
     → every t (seconds xs) ≡ all n (λ v. if-there (beside xs v) t)
 each-beside n t xs b o = iff→≡ _ _
     (λ e. all-in n _ (λ v l. if-there-in _ _ (λ a q. beside-second t xs e v a q)))
-    (λ e. beside-each t xs o (λ v a q. if-there-out _ _ (all-out n _ e v (elem-below n _ b v (sym (beside-elem xs v) ∙ isSome-in _ q))) a q))
+    (λ e. beside-each t xs o (λ v a q. if-there-out _ _ (all-out n _ e v (below-elem n _ b v (sym (beside-elem xs v) ∙ isSome-in _ q))) a q))
 
 -- ---- sets
 
@@ -107,7 +99,7 @@ free-disjoint : (own : Set) (rs : List ℕ) → eachBelow facilities rs ≡ true
 unfolding free disjoint setOf
 free-disjoint own rs b = iff→≡ _ _
     (λ e. all-in _ _ (λ f l. imp-in _ _ (λ t. not-in _ (fails _ (λ q. clash t (not-out _ (every-elem _ rs e f q)))))))
-    (λ e. every-listed _ rs (λ f q. not-in _ (fails _ (λ t. clash q (not-out _ (imp-out _ _ (all-out _ _ e f (elem-below _ rs b f q)) t))))))
+    (λ e. every-listed _ rs (λ f q. not-in _ (fails _ (λ t. clash q (not-out _ (imp-out _ _ (all-out _ _ e f (below-elem _ rs b f q)) t))))))
 
 if-there-map : {A B : Type 0} (g : A → B) (o : Option A) (t : B → Bool) → if-there (optionMap g o) t ≡ if-there o (λ a. t (g a))
 unfolding if-there optionMap
@@ -134,7 +126,7 @@ module _ {A B : Type 0} (n : ℕ) (good full single : A → Bool) (what : A → 
     are-listed v = sym (ap (λ (h : Gathered B). listed h v) is ∙ gathered-listed n good full single what xs below-all v)
 
     pub are-below : (v : ℕ) → listed g v ≡ true → v < n
-    are-below v t = elem-below n (firsts xs) numbers-below v (are-listed v ∙ t)
+    are-below v t = below-elem n (firsts xs) numbers-below v (are-listed v ∙ t)
 
     pub are-given : (v : ℕ) → optionMap what (beside xs v) ≡ g .given v
     are-given v = sym (ap (λ (h : Gathered B). h .given v) is ∙ gathered-given n good full single what xs below-all v)
@@ -262,7 +254,7 @@ specified-each : (t : ℕ → Bool) (us : List ℕ) → eachBelow components us 
 unfolding subset setOf
 specified-each t us b = iff→≡ _ _
     (λ e. all-in _ _ (λ c l. imp-in _ _ (λ q. every-elem _ us e c q)))
-    (λ e. every-listed _ us (λ c q. imp-out _ _ (all-out _ _ e c (elem-below _ us b c q)) q))
+    (λ e. every-listed _ us (λ c q. imp-out _ _ (all-out _ _ e c (below-elem _ us b c q)) q))
 
 module _ (b : Book) (c : ℕ) (us : List ℕ) (ks : List (ℕ × Members)) where
   abbrev usableG : Gathered (Unit {0})

@@ -16,7 +16,7 @@ use Rattle.theorems.specs.MapLaws.{optionMap-some}
 
 -- ---- tests
 
-or-nothing : (a : Bool) → (a or false) ≡ a
+pub or-nothing : (a : Bool) → (a or false) ≡ a
 unfolding _or_
 or-nothing true = refl
 or-nothing false = refl

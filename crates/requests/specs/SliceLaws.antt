@@ -17,18 +17,13 @@ use Rattle.requests.specs.Gathered.{Gathered, gather, nothing, step}
 use Rattle.requests.specs.Said.{alone, always, compositionsFrom, compositionsOf, compositionsSaid, compositionsStep, facilitiesSaid}
 use Rattle.requests.specs.Said.{itself, membersSaid, paired, usableOf, usableStep}
 use Rattle.requests.specs.Views.{compositionsView, usableView}
-use Rattle.sets.specs.SetLaws.{bit-limit, bit-zero}
+use Rattle.sets.specs.SetLaws.{bit-zero}
 use Rattle.sets.specs.Sets.{bit}
-use Rattle.sets.specs.TestLaws.{<?-in, ==-same, and-false, and-in, and-no, fails, if-false, if-true, iff→≡, or-l, or-r, ≤?-in, ≤?-out}
+use Rattle.sets.specs.TestLaws.{and-false, and-in, and-no, fails, if-false, if-true, ≤?-in, ≤?-out}
 use Rattle.sets.specs.Tests.{if_then_else_}
-use Rattle.theorems.specs.ListLaws.{rising-elem}
+use Rattle.theorems.specs.RisingLaws.{rising-below, rising-set}
 use Rattle.requests.specs.declared.Compositions.{Compositions}
 use Rattle.requests.specs.declared.Usable.{Usable}
-
-every-all : (t : ℕ → Bool) (xs : List ℕ) → ((k : ℕ) → elem k xs ≡ true → t k ≡ true) → every t xs ≡ true
-unfolding every elem
-every-all t [] h = refl
-every-all t (x ∷ xs) h = and-in _ _ (h x (or-l _ _ (==-same x))) (every-all t xs (λ k e. h k (or-r _ _ e)))
 
 -- ---- two lists that belong together
 
@@ -92,12 +87,12 @@ module _ {A B G : Type 0} (n : ℕ) (good full single : A → Bool) (what : A �
 -- ---- sets of facilities
 
 pub said-below : (q : ℕ) → eachBelow facilities (facilitiesSaid q) ≡ true
-unfolding eachBelow facilitiesSaid
-said-below q = every-all _ _ (λ k e. <?-in _ _ (rising-elem facilities k (bit q) .0 e .0))
+unfolding facilitiesSaid
+said-below q = rising-below facilities (bit q)
 
 pub said-set : (q : ℕ) → q < 2 ^ 64 → setOf (facilitiesSaid q) ≡ bit q
-unfolding setOf facilitiesSaid
-said-set q h = fun-ext (λ f. iff→≡ _ _ (λ t. rising-elem facilities f (bit q) .0 t .1) (λ t. rising-elem facilities f (bit q) .1 (bit-limit 64 q f h t, t)))
+unfolding facilitiesSaid
+said-set q h = rising-set q h
 
 pub none-below : eachBelow facilities [] ≡ true
 unfolding eachBelow every

@@ -9,12 +9,13 @@ use native.Mathlib.Omega.{arith}
 use lib.ListN.{length, replicate, set}
 use lib.Seq.{getD-set-other, getD-set-same}
 use Rattle.book.specs.Plain.{byte, facilitySet}
+use Rattle.book.specs.SlotLaws.{only-no, only-yes}
 use Rattle.model.specs.Book.{components, facilities, versions}
 use Rattle.model.specs.Lists.{beside, setOf}
 use Rattle.model.specs.Maps.{Map, elseTry, if-there, isSome, onlyIf}
 use Rattle.model.specs.Questions.{eachBelow}
 use Rattle.requests.specs.Gathered.{Gathered, listed, nothing, step}
-use Rattle.requests.specs.GatheredLaws.{else-none, step-in, step-out}
+use Rattle.requests.specs.GatheredLaws.{else-none, or-nothing, step-in, step-out}
 use Rattle.requests.specs.Said.{always, alone, isImplementation, isVersionOrNone, itself, leftOut, membersStep}
 use Rattle.requests.specs.Said.{numbersStep, setsStep, usableStep, versionSaid}
 use Rattle.requests.specs.Views.{byteAt, compositionView, held, markAt, markSaid, nothingAt, numbersView}
@@ -38,19 +39,6 @@ module _ {B : Type 0} where
   unfolding isSome onlyIf
   some-only true x = refl
   some-only false x = refl
-
-  pub only-yes : (t : Bool) (x : B) → t ≡ true → onlyIf t x ≡ some x
-  unfolding onlyIf
-  only-yes t x e = rw e refl
-
-  pub only-no : (t : Bool) (x : B) → t ≡ false → onlyIf t x ≡ none
-  unfolding onlyIf
-  only-no t x e = rw e refl
-
-or-nothing₂ : (a : Bool) → (a or false) ≡ a
-unfolding _or_
-or-nothing₂ true = refl
-or-nothing₂ false = refl
 
 with-here : (a : Set) (v : ℕ) → with a v v ≡ true
 unfolding with _or_
@@ -148,13 +136,13 @@ module _ {A B : Type 0} (n : ℕ) (good : A → Bool) (what : A → B) (l t : Bo
       → ((i : ℕ) → i ≢ v → at′ i ≡ at i) → held l false t w at′ ≡ step n good always always what (held l false t s at) (v, a)
   unfolding always ~_
   plain-new w at′ v< ok new bits here there =
-      ap₂ (λ (x y : Bool). held l x y w at′) (sym (or-nothing₂ false)) (sym (or-nothing₂ t))
+      ap₂ (λ (x y : Bool). held l x y w at′) (sym (or-nothing false)) (sym (or-nothing t))
       ∙ entry-new n good always always what l false t s at v a w at′ v< ok new bits here there
 
   pub plain-old : v < n → good a ≡ true → bit s v ≡ true → held l false true s at ≡ step n good always always what (held l false t s at) (v, a)
   unfolding always ~_
   plain-old v< ok old =
-      ap (λ (x : Bool). held l x true s at) (sym (or-nothing₂ false)) ∙ entry-old n good always always what l false t s at v a v< ok old
+      ap (λ (x : Bool). held l x true s at) (sym (or-nothing false)) ∙ entry-old n good always always what l false t s at v a v< ok old
 
 -- ---- versions with sets
 

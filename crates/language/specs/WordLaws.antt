@@ -27,6 +27,7 @@ use Rattle.words.specs.declared.Token.{Token}
 use Rattle.words.specs.declared.Token.the-variants.{Word, Quoted, Mark, End, Bad}
 use Rattle.language.specs.PairLaws.{pair-no-name, pair-no-point, pair-no-version, pair-read}
 use Rattle.language.specs.Readers.{Answers, Any, Got, PartOf, Span, keyNumber}
+use Rattle.language.specs.TakeLaws.{name-short}
 use Rattle.language.specs.TokenLaws.{answer-no, answer-yes}
 use Rattle.language.specs.Words.{CommandAt, OneSaid, PairSaid, commandNumber}
 use Rattle.language.specs.declared.Parts.{Parts}
@@ -40,7 +41,7 @@ one-said t at a e there r f = record {
   yes = λ y. (let g = r .yes y in record {
     value = f (g .value);
     is = rw (g .is);
-    took = record { is = ap f (g .took .is); span = g .took .span };
+    took = record { is = ap f (g .took .is); span = g .took .span; fits = name-short t at a e e there r (ap notᵇ y) };
     from = g .from;
     inside = g .inside;
   });
@@ -77,6 +78,8 @@ pair-said t at s a b l e c₀ k₀ v₀ n y k x v w f =
         is = ap (λ (z : Name). f z (g .value .1)) (g .took .0 .is) ∙ ap (f (part t s a)) (g .took .1 .is);
         component = g .took .0 .span;
         version = g .took .1 .span;
+        component-fits = name-short t at s a a c₀ n y;
+        version-fits = name-short t b l e e v₀ v w;
       };
       from = g .from;
       inside = g .inside;

@@ -1,9 +1,10 @@
 -- The first word of a command, and the names of deletions and queries, which are parts of the text.
+use mathlib.Core.Bool.{true}
 use mathlib.Core.Path.{_≡_}
 use Prim.Native.Nat.{_<_, _≤_, ℕ}
 use lib.ListN.{drop, length}
 use Rattle.sets.specs.Tests.{_==_, if_then_else_}
-use Rattle.text.specs.Bytes.{Text, keywords}
+use Rattle.text.specs.Bytes.{Text, keywords, short}
 use Rattle.text.specs.Language.{Name, Said, byWord, command, grammar, over, wrong}
 use Rattle.text.specs.Tables.{nameAt}
 use Rattle.words.specs.Reading.{part}
@@ -14,12 +15,15 @@ use Rattle.language.specs.declared.Parts.{Parts}
 pub record OneSaid (f : Name → Said) (t : Text) (a e : ℕ) (x : Said) : Type 0 where
   pub is : x ≡ f (part t a e)
   pub span : Span t a e
+  pub fits : short (part t a e) ≡ true
 
 -- the command is f of two names
 pub record PairSaid (f : Name → Name → Said) (t : Text) (r : Parts) (x : Said) : Type 0 where
   pub is : x ≡ f (part t (r .start) (r .end)) (part t (r .from) (r .to))
   pub component : Span t (r .start) (r .end)
   pub version : Span t (r .from) (r .to)
+  pub component-fits : short (part t (r .start) (r .end)) ≡ true
+  pub version-fits : short (part t (r .from) (r .to)) ≡ true
 
 -- the number of the keyword that w is: 29 for "quit", 28 where it is none
 unfoldable pub commandNumber : Text → ℕ

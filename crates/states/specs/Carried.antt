@@ -1,0 +1,24 @@
+-- A command that was carried out in the state s, which left the state s′.
+use mathlib.Core.Bool.{Bool, false}
+use mathlib.Core.List.{List}
+use mathlib.Core.Path.{_≡_}
+use Prim.Native.Nat.{ℕ}
+use Rattle.listing.specs.Room.{Puts}
+use Rattle.listing.specs.declared.Room.{Room}
+use Rattle.text.specs.Language.{Said}
+use Rattle.text.specs.Session.{State, afterwards, carry, decided, lines}
+
+-- one of the ten commands: a is its answer; refused, nothing is changed
+pub record Decides (s s′ : State) (a : ℕ) (x : Said) : Type 0 where
+  pub is : carry s x ≡ decided a s′
+  pub refused : (a ≡ 0 → ⊥) → s′ ≡ s
+
+-- any command, the i-th of a session: its rows are put into the slice `old`, which has the room p and then is `new` with the room q
+pub record Carried (i : ℕ) (s s′ : State) (p q : Room) (old new : List ℕ) (x : Said) : Type 0 where
+  pub rows : Puts (lines i (carry s x)) p q old new
+  pub state : s′ ≡ afterwards s (carry s x)
+
+-- where no command was read, nothing is put
+pub record Unread (there : Bool) (p q : Room) (old new : List ℕ) : Type 0 where
+  pub room : there ≡ false → q ≡ p
+  pub slice : there ≡ false → new ≡ old

@@ -1,0 +1,4 @@
+pub mod Forms
+pub mod Stepped
+pub mod FormLaws
+pub mod StepLaws

@@ -1,0 +1,23 @@
+-- One step of a session: from position `at` on the next command, number i, is read and carried out.
+use mathlib.Core.Bool.{Bool, false, true}
+use mathlib.Core.List.{List, _++_}
+use mathlib.Core.Path.{_≡_}
+use Prim.Native.Nat.{_<_, _≤_, suc, ℕ}
+use lib.ListN.{drop, length}
+use Rattle.listing.specs.Room.{Puts}
+use Rattle.listing.specs.declared.Room.{Room}
+use Rattle.text.specs.Bytes.{Text}
+use Rattle.text.specs.Session.{State, sessionFrom}
+
+-- the session from position `at` of the text on, in the state s and with command number i
+unfoldable pub sessionAt : ℕ → State → Text → ℕ → Text × State
+sessionAt i s t at = sessionFrom (length (drop at t)) i s (drop at t)
+
+-- s′ is the state afterwards; `rows` are put. If there is more, the session goes on at e, behind `at`.
+pub record Stepped (i : ℕ) (t : Text) (at : ℕ) (s s′ : State) (p q : Room) (old new : List ℕ) (more : Bool) (e : ℕ) : Type 0 where
+  pub rows : Text
+  pub puts : Puts rows p q old new
+  pub goes-on : more ≡ true → sessionAt i s t at ≡ (rows ++ sessionAt (suc i) s′ t e .0, sessionAt (suc i) s′ t e .1)
+  pub onward : more ≡ true → at < e
+  pub inside : more ≡ true → e ≤ length t
+  pub ends : more ≡ false → sessionAt i s t at ≡ (rows, s′)

@@ -9,10 +9,11 @@ use Rattle.text.specs.Language.{Said}
 use Rattle.text.specs.Session.{State, add, carry}
 use Rattle.text.specs.Tables.{Tables, entered, fits}
 
--- the Book of the outcome o is kept in the arrays if it was accepted, and else they stay
-pub record Keeps (o : Outcome) (s n s′ n′ : List ℕ) : Type 0 where
-  pub accepted : o .answer ≡ 0 → (s′ ≡ o .book .sets) × (n′ ≡ o .book .numbers)
-  pub refused : (o .answer ≡ 0 → ⊥) → (s′ ≡ s) × (n′ ≡ n)
+-- the outcome o is answered with a, and its Book is kept in the arrays if it was accepted; else they stay
+pub record Keeps (o : Outcome) (s n : List ℕ) (a : ℕ) (s′ n′ : List ℕ) : Type 0 where
+  pub answer-is : a ≡ o .answer
+  pub accepted : a ≡ 0 → (s′ ≡ o .book .sets) × (n′ ≡ o .book .numbers)
+  pub refused : (a ≡ 0 → ⊥) → (s′ ≡ s) × (n′ ≡ n)
 
 -- The adding command x, as it was read with the tables t before it: `room` says whether there is a place for each new name; and if there
 -- is, t′ is the tables with them, and P holds of the command by its numbers in these.

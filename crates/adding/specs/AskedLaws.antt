@@ -1,7 +1,7 @@
 -- The five adding commands as one: what each reader found is the reading of an adding command, and what each command answers for its
 -- gathered lists it answers for the command that was read.
 use mathlib.Core.List.{List}
-use mathlib.Core.Path.{_∙_, _≡_, ap, refl, subst, sym}
+use mathlib.Core.Path.{_≡_, ap, subst, sym}
 use mathlib.Core.Bool.{true}
 use Prim.Native.Nat.{ℕ}
 use Rattle.commands.specs.Outcome.{Called}
@@ -19,7 +19,7 @@ use Rattle.requests.specs.Said.{compositionsOf, membersOf, numbersOf, setsOf, u
 use Rattle.requests.specs.Views.{compositionView, compositionsView, numbersView, setsView, usableView}
 use Rattle.sets.specs.Sets.{bit}
 use Rattle.text.specs.Language.{Said}
-use Rattle.text.specs.Session.{State, carry}
+use Rattle.text.specs.Session.{carry}
 use Rattle.text.specs.Tables.{Tables, modNames, modNumbered, modvarNames, modvarNumbered, specNames, specNumbered, sysNames, sysNumbered, sysvarNames, sysvarNumbered}
 use Rattle.adding.specs.Adding.{Adds}
 
@@ -89,7 +89,7 @@ module _ (s n : List ℕ) (a : ℕ) (s′ n′ : List ℕ) where
 
   pub spec-called : (r : SpecRequest)
       → ((ps : List ℕ) (vs : List (ℕ × List ℕ)) → eachBelow facilities ps ≡ true → setOf ps ≡ bit (r .provided) → setsView (r .versions) ≡ setsOf vs
-        → Called s n (ADD-SPEC (r .component) ps vs (r .standard)) a s′ n′)
+      → Called s n (ADD-SPEC (r .component) ps vs (r .standard)) a s′ n′)
       → (k : Command) → SpecAsks k r → Called s n k a s′ n′
   spec-called r h k q = subst Answered (sym (q .is)) (h (q .facs) (q .list) (q .below) (q .provided) (q .versions))
 
@@ -100,13 +100,13 @@ module _ (s n : List ℕ) (a : ℕ) (s′ n′ : List ℕ) where
 
   pub sys-called : (r : SysRequest)
       → ((us : List ℕ) (ks : List (ℕ × Members)) → usableView (r .usable) ≡ usableOf us → compositionsView (r .versions) ≡ compositionsOf ks
-        → Called s n (ADD-SYS (r .component) us ks) a s′ n′)
+      → Called s n (ADD-SYS (r .component) us ks) a s′ n′)
       → (k : Command) → SysAsks k r → Called s n k a s′ n′
   sys-called r h k q = subst Answered (sym (q .is)) (h (q .usables) (q .list) (q .usable) (q .versions))
 
   pub modvar-called : (r : ModvarRequest)
       → ((rs : List ℕ) → eachBelow facilities rs ≡ true → setOf rs ≡ bit (r .required)
-        → Called s n (ADD-MODVAR (r .component) (r .version) rs (r .implementation)) a s′ n′)
+      → Called s n (ADD-MODVAR (r .component) (r .version) rs (r .implementation)) a s′ n′)
       → (k : Command) → ModvarAsks k r → Called s n k a s′ n′
   modvar-called r h k q = subst Answered (sym (q .is)) (h (q .facs) (q .below) (q .required))
 

@@ -1,0 +1,145 @@
+-- Laws of the adding commands: one for each way out of the code.
+use mathlib.Core.Bool.{Bool, false, true}
+use mathlib.Core.Bool.{not as notᵇ}
+use mathlib.Core.List.{List}
+use mathlib.Core.Logic.{_≢_}
+use mathlib.Core.Path.{_∙_, _≡_, ap, ap₂, refl, sym}
+use Prim.Native.Nat.{suc, zero, ℕ}
+use borrow.Author.Tests.{not-false, not-true}
+use Rattle.book.specs.Plain.{plainOf}
+use Rattle.commands.specs.Demand.{step-right}
+use Rattle.commands.specs.Outcome.{Called}
+use Rattle.commands.specs.declared.Outcome.{Outcome}
+use Rattle.language.specs.Entering.{Kept}
+use Rattle.language.specs.Readers.{Answers}
+use Rattle.language.specs.TakeLaws.{no-answer}
+use Rattle.language.specs.TokenLaws.{answer-yes}
+use Rattle.model.specs.Book.{Book, components, facilities, implementations, versions}
+use Rattle.model.specs.Commands.{Command, after}
+use Rattle.model.specs.PlainBook.{answer, next}
+use Rattle.names.specs.Stored.{tablesOf}
+use Rattle.rules.specs.Test.{passes}
+use Rattle.sets.specs.TestLaws.{clash, if-false, if-true}
+use Rattle.states.specs.Carried.{Decides}
+use Rattle.states.specs.State.{Ready, stateOf}
+use Rattle.text.specs.Bytes.{Text}
+use Rattle.text.specs.Language.{Reader, Said}
+use Rattle.text.specs.Session.{State, add, carry, decided, told}
+use Rattle.text.specs.Tables.{Tables}
+use Rattle.adding.specs.Adding.{Adds, Keeps}
+
+-- ---- the ways out of keep
+
+module _ (o : Outcome) (s n : List ℕ) where
+  pub keeps-refused : o .answer ≢ 0 → Keeps o s n (o .answer) s n
+  keeps-refused h = record { answer-is = refl; accepted = λ e. absurd (h e); refused = λ _. (refl, refl) }
+
+  pub keeps-accepted : o .answer ≡ 0 → Keeps o s n (o .answer) (o .book .sets) (o .book .numbers)
+  keeps-accepted e = record { answer-is = refl; accepted = λ _. (refl, refl); refused = λ h. absurd (h e) }
+
+-- what was called and kept was called
+pub called-kept : (s n : List ℕ) (k : Command) (o : Outcome) (a : ℕ) (s′ n′ : List ℕ)
+    → Called s n k (o .answer) (o .book .sets) (o .book .numbers) → Keeps o s n a s′ n′ → Called s n k a s′ n′
+called-kept s n k o a s′ n′ c w = record {
+  answer-is = w .answer-is ∙ c .answer-is;
+  refused = w .refused;
+  accepted = λ e.
+      (let q = w .accepted e in
+      let h = c .accepted (sym (w .answer-is) ∙ e) in
+      (ap₂ plainOf (q .0) (q .1) ∙ h .0, ap₂ passes (q .0) (q .1) ∙ h .1));
+}
+
+-- ---- a command that was asked its questions
+
+decided-no : (a : ℕ) (s s′ : State) → a ≢ 0 → decided a s ≡ decided a s′
+unfolding decided
+decided-no zero s s′ h = absurd (h refl)
+decided-no (suc a) s s′ h = refl
+
+-- the state that counts where the answer is 0 has the plain book's next, which is the changed book there
+told-next : (b : Book) (t : Tables) (k : Command) → told b t k ≡ decided (answer b k) (record { book = next b k; tables = t })
+unfolding told next
+told-next b t k = by (answer b k)
+  where
+    by : (m : ℕ) → decided m (record { book = after b k; tables = t })
+        ≡ decided m (record { book = elim m [ zero ↦ after b k | suc x ↦ b ]; tables = t })
+    by zero = refl
+    by (suc m) = unfold decided in refl
+
+told-called : (s n : List ℕ) (k : Command) (a : ℕ) (s′ n′ : List ℕ) → passes s n ≡ true → Called s n k a s′ n′
+    → (t : Tables) → told (plainOf s n) t k ≡ decided a (record { book = plainOf s′ n′; tables = t })
+told-called s n k a s′ n′ good c t =
+    let q = step-right s n k a s′ n′ good c in
+    told-next _ t k ∙ ap₂ (λ (m : ℕ) (b : Book). decided m (record { book = b; tables = t })) (sym (q .0)) (sym (q .1))
+
+-- ---- an adding command that was read: s n c v f i are the arrays before it, and c′ v′ f′ i′ the tables with its new names
+
+module _ (s n c v f i c′ v′ f′ i′ : List ℕ) (room : Bool) (P : Command → Type 0) (x : Said)
+    (q : Adds (tablesOf c v f i) (tablesOf c′ v′ f′ i′) room P x) where
+  no-place : room ≡ false → Decides (stateOf s n c v f i) (stateOf s n c v f i) 24 x
+  unfolding add decided stateOf
+  no-place e = record { is = q .is _ ∙ if-false _ _ _ (sym (q .placed) ∙ e); refused = λ _. refl }
+
+  module _ (y : room ≡ true) (good : passes s n ≡ true) (a : ℕ) (s′ n′ : List ℕ) (called : (k : Command) → P k → Called s n k a s′ n′) where
+    asked : Called s n (q .numbered (tablesOf c′ v′ f′ i′)) a s′ n′
+    asked = called _ (q .asks y)
+
+    outcome-passes : passes s′ n′ ≡ true
+    outcome-passes = step-right s n _ a s′ n′ good asked .2
+
+    carried : carry (stateOf s n c v f i) x ≡ decided a (stateOf s′ n′ c′ v′ f′ i′)
+    unfolding add stateOf
+    carried =
+        q .is _ ∙ if-true _ _ _ (sym (q .placed) ∙ y)
+        ∙ ap (λ (t : Tables). told (plainOf s n) t (q .numbered t)) (sym (q .tables y))
+        ∙ told-called s n _ a s′ n′ good asked (tablesOf c′ v′ f′ i′)
+
+    not-accepted : a ≢ 0 → Decides (stateOf s n c v f i) (stateOf s′ n′ c v f i) a x
+    not-accepted h = record {
+      is = carried ∙ decided-no _ _ _ h;
+      refused = λ _. ap₂ (λ (b m : List ℕ). stateOf b m c v f i) (asked .refused h .0) (asked .refused h .1);
+    }
+
+    accepted : a ≡ 0 → Decides (stateOf s n c v f i) (stateOf s′ n′ c′ v′ f′ i′) a x
+    accepted e = record { is = carried; refused = λ h. absurd (h e) }
+
+-- ---- the ways out of the five commands
+
+module _ (s n c v f i : List ℕ) (before : Ready s n c v f i) (p : Reader Said) (t : Text) (at e : ℕ) (there : Bool) (Q : Said → Type 0)
+    (read : Answers p Q t at there e) where
+  pub way-unread : (z a : ℕ) → notᵇ there ≡ true → Ready s n c v f i
+      × (Answers p (Decides (stateOf s n c v f i) (stateOf s n c v f i) a) t at false z × (false ≡ false → stateOf s n c v f i ≡ stateOf s n c v f i))
+  way-unread z a h = (before, (no-answer p Q _ t at e z there read h, λ _. refl))
+
+  module _ (h : notᵇ there ≡ false) where
+    answer-on : (R : Said → Type 0) → ((x : Said) → Q x → R x) → Answers p R t at true e
+    answer-on R g =
+        let a = read .yes (not-false there h) in
+        answer-yes p R t at e (record { value = a .value; is = a .is; took = g (a .value) (a .took); from = a .from; inside = a .inside })
+
+    module _ (c′ v′ f′ i′ : List ℕ) (room : Bool) (P : Command → Type 0)
+        (adds : (x : Said) → Q x → Adds (tablesOf c v f i) (tablesOf c′ v′ f′ i′) room P x) where
+      pub way-no-place : notᵇ room ≡ true → Ready s n c v f i
+          × (Answers p (Decides (stateOf s n c v f i) (stateOf s n c v f i) 24) t at true e × (true ≡ false → stateOf s n c v f i ≡ stateOf s n c v f i))
+      way-no-place r =
+          (before, (answer-on _ (λ x q. no-place s n c v f i c′ v′ f′ i′ room P x (adds x q) (not-true room r)), λ _. refl))
+
+      module _ (y : notᵇ room ≡ false) (a : ℕ) (s′ n′ : List ℕ) (called : (k : Command) → P k → Called s n k a s′ n′) where
+        way-passes : passes s′ n′ ≡ true
+        way-passes =
+            let g = read .yes (not-false there h) in
+            outcome-passes s n c v f i c′ v′ f′ i′ room P (g .value) (adds (g .value) (g .took)) (not-false room y) (before .passes) a s′ n′ called
+
+        pub way-refused : a ≢ 0 → Ready s′ n′ c v f i
+            × (Answers p (Decides (stateOf s n c v f i) (stateOf s′ n′ c v f i) a) t at true e × (true ≡ false → stateOf s′ n′ c v f i ≡ stateOf s n c v f i))
+        way-refused d = (
+          record { passes = way-passes; comps = before .comps; vers = before .vers; facs = before .facs; impls = before .impls },
+          (answer-on _ (λ x q. not-accepted s n c v f i c′ v′ f′ i′ room P x (adds x q) (not-false room y) (before .passes) a s′ n′ called d), λ z. clash refl z),
+        )
+
+        pub way-accepted : Kept components c′ → Kept versions v′ → Kept facilities f′ → Kept implementations i′ → a ≡ 0 → Ready s′ n′ c′ v′ f′ i′
+            × (Answers p (Decides (stateOf s n c v f i) (stateOf s′ n′ c′ v′ f′ i′) a) t at true e × (true ≡ false → stateOf s′ n′ c′ v′ f′ i′ ≡ stateOf s n c v f i))
+        way-accepted kc kv kf ki d = (
+          record { passes = way-passes; comps = kc; vers = kv; facs = kf; impls = ki },
+          (answer-on _ (λ x q. accepted s n c v f i c′ v′ f′ i′ room P x (adds x q) (not-false room y) (before .passes) a s′ n′ called d), λ z. clash refl z),
+        )

@@ -1,0 +1,3 @@
+pub mod Adding
+pub mod AddingLaws
+pub mod AskedLaws

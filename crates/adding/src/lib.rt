@@ -1,0 +1,379 @@
+// The five adding commands of a session's text, each from behind its first word: its names are entered into copies of the tables as they
+// are read, and Book and tables are changed only if it is accepted. What an answer means is states/specs/Carried.antt.
+ghost use mathlib.Core.Path.{_≡_};
+ghost use mathlib.Core.Bool.{false, true};
+ghost use Prim.Native.Nat.{_≤_};
+ghost use lib.ListN.{length};
+ghost use Rattle.commands.specs.Outcome.{Called};
+ghost use Rattle.language.specs.Readers.{Answers};
+ghost use Rattle.language.specs.Requested.{ModAsks, ModvarAsks, SpecAsks, SysAsks, SysvarAsks};
+ghost use Rattle.model.specs.Commands.{Command};
+ghost use Rattle.rules.specs.Test as test;
+ghost use Rattle.states.specs.Carried.{Decides};
+ghost use Rattle.states.specs.State.{Ready, stateOf};
+ghost use Rattle.text.specs.Language.{add-mod, add-modvar, add-spec, add-sys, add-sysvar};
+ghost use Rattle.adding.specs.Adding.{Keeps};
+use book::Book;
+use commands::Outcome;
+use language::ModRequest;
+use language::ModvarRequest;
+use language::SpecRequest;
+use language::SysRequest;
+use language::SysvarRequest;
+use states::Decision;
+
+// "is there a place for each new name? no: 24."
+const NO_PLACE: usize = 24;
+
+// The answer of a command. The Book is kept in the arrays if it was accepted; else they stay as they are.
+fn keep(sets: &mut [u64; 576], numbers: &mut [u8; 8768], o: Outcome) -> usize
+    ensures { λ r. ⌜ Keeps o (now (sets .entry)) (now (numbers .entry)) r (now (sets .exit)) (now (numbers .exit)) ⌝ }
+{
+    let answer = o.answer as usize;
+    if answer != 0 {
+        return answer;
+    }
+    let b = o.book;
+    let s = b.sets;
+    let n = b.numbers;
+    *sets = s;
+    *numbers = n;
+    answer
+}
+
+// ---- a request on the Book in the arrays: the answer, and the Book after it if it is accepted
+
+fn answer_spec(sets: &mut [u64; 576], numbers: &mut [u8; 8768], r: SpecRequest) -> usize
+    requires { ⌜ test.passes (now sets) (now numbers) ≡ true ⌝ }
+    ensures { λ a. ⌜ ((k : Command) → SpecAsks k r → Called (now (sets .entry)) (now (numbers .entry)) k a (now (sets .exit)) (now (numbers .exit))) ⌝ }
+{
+    let s = *sets;
+    let n = *numbers;
+    let versions = r.versions;
+    let b = Book {
+        sets: s,
+        numbers: n,
+    };
+    keep(
+        sets,
+        numbers,
+        commands::add_spec_in(b, r.component, r.provided, versions, r.standard),
+    )
+}
+
+fn answer_mod(sets: &mut [u64; 576], numbers: &mut [u8; 8768], r: ModRequest) -> usize
+    requires { ⌜ test.passes (now sets) (now numbers) ≡ true ⌝ }
+    ensures { λ a. ⌜ ((k : Command) → ModAsks k r → Called (now (sets .entry)) (now (numbers .entry)) k a (now (sets .exit)) (now (numbers .exit))) ⌝ }
+{
+    let s = *sets;
+    let n = *numbers;
+    let versions = r.versions;
+    let b = Book {
+        sets: s,
+        numbers: n,
+    };
+    keep(
+        sets,
+        numbers,
+        commands::add_mod_in(b, r.component, versions),
+    )
+}
+
+fn answer_sys(sets: &mut [u64; 576], numbers: &mut [u8; 8768], r: SysRequest) -> usize
+    requires { ⌜ test.passes (now sets) (now numbers) ≡ true ⌝ }
+    ensures { λ a. ⌜ ((k : Command) → SysAsks k r → Called (now (sets .entry)) (now (numbers .entry)) k a (now (sets .exit)) (now (numbers .exit))) ⌝ }
+{
+    let s = *sets;
+    let n = *numbers;
+    let usable = r.usable;
+    let versions = r.versions;
+    let b = Book {
+        sets: s,
+        numbers: n,
+    };
+    keep(
+        sets,
+        numbers,
+        commands::add_sys_in(b, r.component, usable, versions),
+    )
+}
+
+fn answer_modvar(sets: &mut [u64; 576], numbers: &mut [u8; 8768], r: ModvarRequest) -> usize
+    requires { ⌜ test.passes (now sets) (now numbers) ≡ true ⌝ }
+    ensures { λ a. ⌜ ((k : Command) → ModvarAsks k r → Called (now (sets .entry)) (now (numbers .entry)) k a (now (sets .exit)) (now (numbers .exit))) ⌝ }
+{
+    let s = *sets;
+    let n = *numbers;
+    let b = Book {
+        sets: s,
+        numbers: n,
+    };
+    keep(
+        sets,
+        numbers,
+        commands::add_modvar_in(b, r.component, r.version, r.required, r.implementation),
+    )
+}
+
+fn answer_sysvar(sets: &mut [u64; 576], numbers: &mut [u8; 8768], r: SysvarRequest) -> usize
+    requires { ⌜ test.passes (now sets) (now numbers) ≡ true ⌝ }
+    ensures { λ a. ⌜ ((k : Command) → SysvarAsks k r → Called (now (sets .entry)) (now (numbers .entry)) k a (now (sets .exit)) (now (numbers .exit))) ⌝ }
+{
+    let s = *sets;
+    let n = *numbers;
+    let composition = r.composition;
+    let b = Book {
+        sets: s,
+        numbers: n,
+    };
+    keep(
+        sets,
+        numbers,
+        commands::add_sysvar_in(b, r.component, r.version, composition),
+    )
+}
+
+// ---- the commands
+
+// "spec", from behind that word.
+pub fn add_spec(
+    sets: &mut [u64; 576],
+    numbers: &mut [u8; 8768],
+    comps: &mut [u8; 1056],
+    vers: &mut [u8; 2112],
+    facs: &mut [u8; 2112],
+    impls: &[u8; 8448],
+    text: &[u8],
+    at: usize,
+) -> Decision
+    requires { ⌜ Ready (now sets) (now numbers) (now comps) (now vers) (now facs) (now impls) ⌝ }
+    requires { ⌜ at ≤ length (now text) ⌝ }
+    ensures { λ r. ⌜ Ready (now (sets .exit)) (now (numbers .exit)) (now (comps .exit)) (now (vers .exit)) (now (facs .exit)) (now (impls .entry)) ⌝ }
+    ensures { λ r. ⌜ Answers add-spec (Decides (stateOf (now (sets .entry)) (now (numbers .entry)) (now (comps .entry)) (now (vers .entry)) (now (facs .entry)) (now (impls .entry))) (stateOf (now (sets .exit)) (now (numbers .exit)) (now (comps .exit)) (now (vers .exit)) (now (facs .exit)) (now (impls .entry))) (r .answer)) (now (text .entry)) at (r .there) (r .end) ⌝ }
+    ensures { λ r. ⌜ (r .there ≡ false → stateOf (now (sets .exit)) (now (numbers .exit)) (now (comps .exit)) (now (vers .exit)) (now (facs .exit)) (now (impls .entry)) ≡ stateOf (now (sets .entry)) (now (numbers .entry)) (now (comps .entry)) (now (vers .entry)) (now (facs .entry)) (now (impls .entry))) ⌝ }
+{
+    let mut c = *comps;
+    let mut v = *vers;
+    let mut f = *facs;
+    let r = language::read_spec(&mut c, &mut v, &mut f, text, at);
+    if !r.there {
+        return Decision {
+            there: false,
+            end: at,
+            answer: 0,
+        };
+    }
+    let end = r.end;
+    if !r.room {
+        return Decision {
+            there: true,
+            end: end,
+            answer: NO_PLACE,
+        };
+    }
+    let answer = answer_spec(sets, numbers, r);
+    if answer == 0 {
+        *comps = c;
+        *vers = v;
+        *facs = f;
+    }
+    Decision {
+        there: true,
+        end: end,
+        answer: answer,
+    }
+}
+
+// "mod", from behind that word.
+pub fn add_mod(
+    sets: &mut [u64; 576],
+    numbers: &mut [u8; 8768],
+    comps: &mut [u8; 1056],
+    vers: &mut [u8; 2112],
+    facs: &[u8; 2112],
+    impls: &mut [u8; 8448],
+    text: &[u8],
+    at: usize,
+) -> Decision
+    requires { ⌜ Ready (now sets) (now numbers) (now comps) (now vers) (now facs) (now impls) ⌝ }
+    requires { ⌜ at ≤ length (now text) ⌝ }
+    ensures { λ r. ⌜ Ready (now (sets .exit)) (now (numbers .exit)) (now (comps .exit)) (now (vers .exit)) (now (facs .entry)) (now (impls .exit)) ⌝ }
+    ensures { λ r. ⌜ Answers add-mod (Decides (stateOf (now (sets .entry)) (now (numbers .entry)) (now (comps .entry)) (now (vers .entry)) (now (facs .entry)) (now (impls .entry))) (stateOf (now (sets .exit)) (now (numbers .exit)) (now (comps .exit)) (now (vers .exit)) (now (facs .entry)) (now (impls .exit))) (r .answer)) (now (text .entry)) at (r .there) (r .end) ⌝ }
+    ensures { λ r. ⌜ (r .there ≡ false → stateOf (now (sets .exit)) (now (numbers .exit)) (now (comps .exit)) (now (vers .exit)) (now (facs .entry)) (now (impls .exit)) ≡ stateOf (now (sets .entry)) (now (numbers .entry)) (now (comps .entry)) (now (vers .entry)) (now (facs .entry)) (now (impls .entry))) ⌝ }
+{
+    let mut c = *comps;
+    let mut v = *vers;
+    let mut i = *impls;
+    let r = language::read_mod(&mut c, &mut v, &mut i, text, at);
+    if !r.there {
+        return Decision {
+            there: false,
+            end: at,
+            answer: 0,
+        };
+    }
+    let end = r.end;
+    if !r.room {
+        return Decision {
+            there: true,
+            end: end,
+            answer: NO_PLACE,
+        };
+    }
+    let answer = answer_mod(sets, numbers, r);
+    if answer == 0 {
+        *comps = c;
+        *vers = v;
+        *impls = i;
+    }
+    Decision {
+        there: true,
+        end: end,
+        answer: answer,
+    }
+}
+
+// "sys", from behind that word.
+pub fn add_sys<'a>(
+    sets: &mut [u64; 576],
+    numbers: &mut [u8; 8768],
+    comps: &mut [u8; 1056],
+    vers: &mut [u8; 2112],
+    facs: &'a [u8; 2112],
+    impls: &'a [u8; 8448],
+    text: &[u8],
+    at: usize,
+) -> Decision
+    requires { ⌜ Ready (now sets) (now numbers) (now comps) (now vers) (now facs) (now impls) ⌝ }
+    requires { ⌜ at ≤ length (now text) ⌝ }
+    ensures { λ r. ⌜ Ready (now (sets .exit)) (now (numbers .exit)) (now (comps .exit)) (now (vers .exit)) (now (facs .entry)) (now (impls .entry)) ⌝ }
+    ensures { λ r. ⌜ Answers add-sys (Decides (stateOf (now (sets .entry)) (now (numbers .entry)) (now (comps .entry)) (now (vers .entry)) (now (facs .entry)) (now (impls .entry))) (stateOf (now (sets .exit)) (now (numbers .exit)) (now (comps .exit)) (now (vers .exit)) (now (facs .entry)) (now (impls .entry))) (r .answer)) (now (text .entry)) at (r .there) (r .end) ⌝ }
+    ensures { λ r. ⌜ (r .there ≡ false → stateOf (now (sets .exit)) (now (numbers .exit)) (now (comps .exit)) (now (vers .exit)) (now (facs .entry)) (now (impls .entry)) ≡ stateOf (now (sets .entry)) (now (numbers .entry)) (now (comps .entry)) (now (vers .entry)) (now (facs .entry)) (now (impls .entry))) ⌝ }
+{
+    let mut c = *comps;
+    let mut v = *vers;
+    let r = language::read_sys(&mut c, &mut v, text, at);
+    if !r.there {
+        return Decision {
+            there: false,
+            end: at,
+            answer: 0,
+        };
+    }
+    let end = r.end;
+    if !r.room {
+        return Decision {
+            there: true,
+            end: end,
+            answer: NO_PLACE,
+        };
+    }
+    let answer = answer_sys(sets, numbers, r);
+    if answer == 0 {
+        *comps = c;
+        *vers = v;
+    }
+    Decision {
+        there: true,
+        end: end,
+        answer: answer,
+    }
+}
+
+// "modvar", from behind that word.
+pub fn add_modvar(
+    sets: &mut [u64; 576],
+    numbers: &mut [u8; 8768],
+    comps: &mut [u8; 1056],
+    vers: &mut [u8; 2112],
+    facs: &mut [u8; 2112],
+    impls: &mut [u8; 8448],
+    text: &[u8],
+    at: usize,
+) -> Decision
+    requires { ⌜ Ready (now sets) (now numbers) (now comps) (now vers) (now facs) (now impls) ⌝ }
+    requires { ⌜ at ≤ length (now text) ⌝ }
+    ensures { λ r. ⌜ Ready (now (sets .exit)) (now (numbers .exit)) (now (comps .exit)) (now (vers .exit)) (now (facs .exit)) (now (impls .exit)) ⌝ }
+    ensures { λ r. ⌜ Answers add-modvar (Decides (stateOf (now (sets .entry)) (now (numbers .entry)) (now (comps .entry)) (now (vers .entry)) (now (facs .entry)) (now (impls .entry))) (stateOf (now (sets .exit)) (now (numbers .exit)) (now (comps .exit)) (now (vers .exit)) (now (facs .exit)) (now (impls .exit))) (r .answer)) (now (text .entry)) at (r .there) (r .end) ⌝ }
+    ensures { λ r. ⌜ (r .there ≡ false → stateOf (now (sets .exit)) (now (numbers .exit)) (now (comps .exit)) (now (vers .exit)) (now (facs .exit)) (now (impls .exit)) ≡ stateOf (now (sets .entry)) (now (numbers .entry)) (now (comps .entry)) (now (vers .entry)) (now (facs .entry)) (now (impls .entry))) ⌝ }
+{
+    let mut c = *comps;
+    let mut v = *vers;
+    let mut f = *facs;
+    let mut i = *impls;
+    let r = language::read_modvar(&mut c, &mut v, &mut f, &mut i, text, at);
+    if !r.there {
+        return Decision {
+            there: false,
+            end: at,
+            answer: 0,
+        };
+    }
+    let end = r.end;
+    if !r.room {
+        return Decision {
+            there: true,
+            end: end,
+            answer: NO_PLACE,
+        };
+    }
+    let answer = answer_modvar(sets, numbers, r);
+    if answer == 0 {
+        *comps = c;
+        *vers = v;
+        *facs = f;
+        *impls = i;
+    }
+    Decision {
+        there: true,
+        end: end,
+        answer: answer,
+    }
+}
+
+// "sysvar", from behind that word.
+pub fn add_sysvar<'a>(
+    sets: &mut [u64; 576],
+    numbers: &mut [u8; 8768],
+    comps: &mut [u8; 1056],
+    vers: &mut [u8; 2112],
+    facs: &'a [u8; 2112],
+    impls: &'a [u8; 8448],
+    text: &[u8],
+    at: usize,
+) -> Decision
+    requires { ⌜ Ready (now sets) (now numbers) (now comps) (now vers) (now facs) (now impls) ⌝ }
+    requires { ⌜ at ≤ length (now text) ⌝ }
+    ensures { λ r. ⌜ Ready (now (sets .exit)) (now (numbers .exit)) (now (comps .exit)) (now (vers .exit)) (now (facs .entry)) (now (impls .entry)) ⌝ }
+    ensures { λ r. ⌜ Answers add-sysvar (Decides (stateOf (now (sets .entry)) (now (numbers .entry)) (now (comps .entry)) (now (vers .entry)) (now (facs .entry)) (now (impls .entry))) (stateOf (now (sets .exit)) (now (numbers .exit)) (now (comps .exit)) (now (vers .exit)) (now (facs .entry)) (now (impls .entry))) (r .answer)) (now (text .entry)) at (r .there) (r .end) ⌝ }
+    ensures { λ r. ⌜ (r .there ≡ false → stateOf (now (sets .exit)) (now (numbers .exit)) (now (comps .exit)) (now (vers .exit)) (now (facs .entry)) (now (impls .entry)) ≡ stateOf (now (sets .entry)) (now (numbers .entry)) (now (comps .entry)) (now (vers .entry)) (now (facs .entry)) (now (impls .entry))) ⌝ }
+{
+    let mut c = *comps;
+    let mut v = *vers;
+    let r = language::read_sysvar(&mut c, &mut v, text, at);
+    if !r.there {
+        return Decision {
+            there: false,
+            end: at,
+            answer: 0,
+        };
+    }
+    let end = r.end;
+    if !r.room {
+        return Decision {
+            there: true,
+            end: end,
+            answer: NO_PLACE,
+        };
+    }
+    let answer = answer_sysvar(sets, numbers, r);
+    if answer == 0 {
+        *comps = c;
+        *vers = v;
+    }
+    Decision {
+        there: true,
+        end: end,
+        answer: answer,
+    }
+}

@@ -1,0 +1,103 @@
+-- The outcome of one of the ten commands, kept in the arrays of a session.
+use mathlib.Core.Bool.{true}
+use mathlib.Core.List.{List}
+use mathlib.Core.Logic.{_⊎_, inl, inr}
+use mathlib.Core.Path.{_∙_, _≡_, ap, ap₂, refl, subst, sym}
+use Prim.Native.Nat.{suc, zero, ℕ}
+use native.Mathlib.Omega.{arith}
+use Rattle.book.specs.Plain.{plainOf}
+use Rattle.commands.specs.Outcome.{Called, answered}
+use Rattle.model.specs.Book.{Book}
+use Rattle.model.specs.Commands.{Command, after}
+use Rattle.model.specs.PlainBook.{answer, next}
+use Rattle.names.specs.Stored.{tablesOf}
+use Rattle.rules.specs.Test.{passes}
+use Rattle.sets.specs.TestLaws.{if-true}
+use Rattle.states.specs.Carried.{Decides}
+use Rattle.states.specs.State.{Ready, stateOf}
+use Rattle.text.specs.Language.{Said}
+use Rattle.text.specs.Session.{State, carry, changed, decided, refused, told}
+use Rattle.text.specs.Tables.{Tables}
+
+-- ---- the Book of an outcome, written back
+
+zero? : (a : ℕ) → (a ≡ 0) ⊎ (a ≡ 0 → ⊥)
+zero? zero = inl refl
+zero? (suc a) = inr (λ e. omega (arith, e))
+
+module _ (s n : List ℕ) (k : Command) (a : ℕ) (s′ n′ : List ℕ) (h : Called s n k a s′ n′) where
+  -- accepted: the arrays are those of the outcome
+  pub keep-accepted : (r : ℕ) (x y : List ℕ) → r ≡ a → x ≡ s′ → y ≡ n′ → Called s n k r x y
+  keep-accepted r x y e p q = record {
+    answer-is = e ∙ h .answer-is;
+    refused = λ ne. (let d = h .refused (λ z. ne (e ∙ z)) in (p ∙ d .0, q ∙ d .1));
+    accepted = λ z. (let d = h .accepted (sym e ∙ z) in (ap₂ plainOf p q ∙ d .0, ap₂ passes p q ∙ d .1));
+  }
+
+  -- refused: they are as they were
+  pub keep-refused : (r : ℕ) (x y : List ℕ) → r ≡ a → (a ≡ 0 → ⊥) → x ≡ s → y ≡ n → Called s n k r x y
+  keep-refused r x y e ne p q = record {
+    answer-is = e ∙ h .answer-is;
+    refused = λ _. (p, q);
+    accepted = λ z. absurd (ne (sym e ∙ z));
+  }
+
+  called-passes : passes s n ≡ true → passes s′ n′ ≡ true
+  called-passes p = elim (zero? a) [
+    | inl z ↦ h .accepted z .1
+    | inr z ↦ ap₂ passes (h .refused z .0) (h .refused z .1) ∙ p
+  ]
+
+  called-answer : passes s n ≡ true → a ≡ answer (plainOf s n) k
+  unfolding answered
+  called-answer p = h .answer-is ∙ if-true _ _ _ p
+
+pub called-as : (s n : List ℕ) (j k : Command) (a : ℕ) (s′ n′ : List ℕ) → j ≡ k → Called s n j a s′ n′ → Called s n k a s′ n′
+called-as s n j k a s′ n′ e h = subst (λ (x : Command). Called s n x a s′ n′) e h
+
+-- ---- one of the ten commands in a session
+
+refused-is : (m : ℕ) (x : State) → (m ≡ 0 → ⊥) → refused m ≡ decided m x
+unfolding decided
+refused-is zero x ne = absurd (ne refl)
+refused-is (suc m) x ne = refl
+
+-- no command was carried out
+pub unchanged : (x : State) (m : ℕ) (k : Said) → (m ≡ 0 → ⊥) → carry x k ≡ refused m → Decides x x m k
+unchanged x m k ne e = record { is = e ∙ refused-is m x ne; refused = λ _. refl }
+
+-- where the answer is 0 the next book is the one after the command
+told-next : (b : Book) (t : Tables) (k : Command) → told b t k ≡ decided (answer b k) (record { book = next b k; tables = t })
+unfolding told next
+told-next b t k = by (answer b k)
+  where
+    by : (m : ℕ) → decided m (record { book = after b k; tables = t })
+        ≡ decided m (record { book = elim m as (λ m. Book) [ zero ↦ after b k | suc x ↦ b ]; tables = t })
+    by zero = refl
+    by (suc m) = unfold decided in refl
+
+decided-same : (m : ℕ) (x y : State) → (m ≡ 0 → x ≡ y) → decided m x ≡ decided m y
+unfolding decided
+decided-same zero x y e = ap changed (e refl)
+decided-same (suc m) x y e = refl
+
+module _ (s n c v f i : List ℕ) (ready : Ready s n c v f i) (k : Command) (a : ℕ) (s′ n′ : List ℕ) (h : Called s n k a s′ n′) where
+  pub ready-on : Ready s′ n′ c v f i
+  ready-on = record {
+    passes = called-passes s n k a s′ n′ h (ready .passes);
+    comps = ready .comps;
+    vers = ready .vers;
+    facs = ready .facs;
+    impls = ready .impls;
+  }
+
+  -- a command that comes to k
+  pub carried-out : (x : Said) → carry (stateOf s n c v f i) x ≡ told (plainOf s n) (tablesOf c v f i) k
+      → Decides (stateOf s n c v f i) (stateOf s′ n′ c v f i) a x
+  unfolding stateOf
+  carried-out x e = record {
+    is = e ∙ told-next (plainOf s n) (tablesOf c v f i) k
+        ∙ ap (λ (m : ℕ). decided m (record { book = next (plainOf s n) k; tables = tablesOf c v f i })) (sym (called-answer s n k a s′ n′ h (ready .passes)))
+        ∙ decided-same a _ _ (λ z. ap (λ (b : Book). record { book = b; tables = tablesOf c v f i }) (sym (h .accepted z .0)));
+    refused = λ ne. ap₂ (λ (x y : List ℕ). record { book = plainOf x y; tables = tablesOf c v f i }) (h .refused ne .0) (h .refused ne .1);
+  }

@@ -1,0 +1,5 @@
+pub mod Rows
+pub mod RowLaws
+pub mod Asked
+pub mod ShownLaws
+pub mod AskedLaws

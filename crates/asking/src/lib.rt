@@ -1,0 +1,361 @@
+// The queries of a session's text, and "out": each is carried out, and its rows are put into the rest of a lent slice (specs/Rows.antt).
+ghost use mathlib.Core.Path.{_≡_};
+ghost use mathlib.Core.Bool.{true};
+ghost use mathlib.Core.List.{[]};
+ghost use Prim.Native.Nat.{_*_, _<_, _≤_};
+ghost use lib.ListN.{length};
+ghost use Rattle.sets.specs.Sets.{bit};
+ghost use Rattle.sets.specs.Tests.{if_then_else_};
+ghost use Rattle.text.specs.Language.{OUT, UNDEFINED, UNUSED, ofOne};
+ghost use Rattle.text.specs.Bytes.{short};
+ghost use Rattle.text.specs.Session.{asked, lines, row};
+ghost use Rattle.model.specs.Queries as model;
+ghost use Rattle.language.specs.Readers.{Answers};
+ghost use Rattle.text.specs.Tables.{nameAt};
+ghost use Rattle.names.specs.Stored.{tableOf};
+ghost use Rattle.listing.specs.Room.{Puts};
+ghost use Rattle.states.specs.Carried.{Carried, Unread};
+ghost use Rattle.states.specs.State.{Ready, stateOf};
+ghost use Rattle.asking.specs.Asked.{askedOf, queryOf};
+ghost use Rattle.asking.specs.Rows.{answerRows, namesIn, rowsOf};
+use listing::Room;
+use states::Shown;
+
+// ---- rows
+
+fn wide(x: u8) -> usize
+    ensures { λ r. ⌜ r ≡ x ⌝ }
+{
+    x as usize
+}
+
+// The row of number k, if it is in the set.
+fn put_if_member(
+    out: &mut [u8],
+    room: Room,
+    i: usize,
+    names: &[u8],
+    places: usize,
+    set: u64,
+    k: usize,
+) -> Room
+    requires { ⌜ length (now names) ≡ places * 33 ⌝ }
+    requires { ⌜ k < 64 ⌝ }
+    ensures { λ r. ⌜ Puts (if bit set k then row i (nameAt (tableOf places (now (names .entry))) k) else []) room r (now (out .entry)) (now (out .exit)) ⌝ }
+{
+    if !sets::member(set, k) {
+        return room;
+    }
+    listing::put_name(out, room, i, listing::name(names, places, k))
+}
+
+// The rows of the numbers of a set, rising.
+fn put_set(out: &mut [u8], room: Room, i: usize, names: &[u8], places: usize, set: u64) -> Room
+    requires { ⌜ length (now names) ≡ places * 33 ⌝ }
+    ensures { λ r. ⌜ Puts (rowsOf i (namesIn (tableOf places (now (names .entry))) set)) room r (now (out .entry)) (now (out .exit)) ⌝ }
+{
+    let mut after = room;
+    for k in 0..64 {
+        after = put_if_member(out, after, i, names, places, set, k);
+    }
+    after
+}
+
+// The answer of a query for facilities or components, whose set is empty where it is refused.
+fn put_numbers(
+    out: &mut [u8],
+    room: Room,
+    i: usize,
+    names: &[u8],
+    places: usize,
+    answer: u8,
+    set: u64,
+) -> Room
+    requires { ⌜ length (now names) ≡ places * 33 ⌝ }
+    ensures { λ r. ⌜ Puts (answerRows i answer (namesIn (tableOf places (now (names .entry))) set)) room r (now (out .entry)) (now (out .exit)) ⌝ }
+{
+    let a = listing::put_answer(out, room, i, wide(answer));
+    put_set(out, a, i, names, places, set)
+}
+
+// ---- of a component
+
+// A query of one component.
+pub enum OfComponent {
+    Supplies,
+    Standard,
+    WhereUsed,
+}
+
+fn put_supplies<'a>(
+    out: &mut [u8],
+    room: Room,
+    i: usize,
+    sets: &'a [u64; 576],
+    numbers: &'a [u8; 8768],
+    comps: &'a [u8; 1056],
+    vers: &'a [u8; 2112],
+    facs: &'a [u8; 2112],
+    impls: &'a [u8; 8448],
+    c: usize,
+) -> Room
+    requires { ⌜ Ready (now sets) (now numbers) (now comps) (now vers) (now facs) (now impls) ⌝ }
+    ensures { λ r. ⌜ Puts (lines i (asked (stateOf (now (sets .entry)) (now (numbers .entry)) (now (comps .entry)) (now (vers .entry)) (now (facs .entry)) (now (impls .entry))) (model.SUPPLIES c))) room r (now (out .entry)) (now (out .exit)) ⌝ }
+{
+    let found = queries::supplies_in(sets, numbers, c);
+    put_numbers(out, room, i, facs, 64, found.answer, found.set)
+}
+
+fn put_whereused<'a>(
+    out: &mut [u8],
+    room: Room,
+    i: usize,
+    sets: &'a [u64; 576],
+    numbers: &'a [u8; 8768],
+    comps: &'a [u8; 1056],
+    vers: &'a [u8; 2112],
+    facs: &'a [u8; 2112],
+    impls: &'a [u8; 8448],
+    c: usize,
+) -> Room
+    requires { ⌜ Ready (now sets) (now numbers) (now comps) (now vers) (now facs) (now impls) ⌝ }
+    ensures { λ r. ⌜ Puts (lines i (asked (stateOf (now (sets .entry)) (now (numbers .entry)) (now (comps .entry)) (now (vers .entry)) (now (facs .entry)) (now (impls .entry))) (model.WHEREUSED c))) room r (now (out .entry)) (now (out .exit)) ⌝ }
+{
+    let found = queries::whereused_in(sets, numbers, c);
+    put_numbers(out, room, i, comps, 32, found.answer, found.set)
+}
+
+fn put_standard<'a>(
+    out: &mut [u8],
+    room: Room,
+    i: usize,
+    sets: &'a [u64; 576],
+    numbers: &'a [u8; 8768],
+    comps: &'a [u8; 1056],
+    vers: &'a [u8; 2112],
+    facs: &'a [u8; 2112],
+    impls: &'a [u8; 8448],
+    c: usize,
+) -> Room
+    requires { ⌜ Ready (now sets) (now numbers) (now comps) (now vers) (now facs) (now impls) ⌝ }
+    ensures { λ r. ⌜ Puts (lines i (asked (stateOf (now (sets .entry)) (now (numbers .entry)) (now (comps .entry)) (now (vers .entry)) (now (facs .entry)) (now (impls .entry))) (model.STANDARD c))) room r (now (out .entry)) (now (out .exit)) ⌝ }
+{
+    let found = queries::standard_in(sets, numbers, c);
+    let a = listing::put_answer(out, room, i, wide(found.answer));
+    if found.answer != 0 {
+        return a;
+    }
+    let v = found.version;
+    listing::put_name(out, a, i, listing::name(vers, 64, v))
+}
+
+// The query of the component with the number c.
+fn put_of_component<'a>(
+    out: &mut [u8],
+    room: Room,
+    i: usize,
+    sets: &'a [u64; 576],
+    numbers: &'a [u8; 8768],
+    comps: &'a [u8; 1056],
+    vers: &'a [u8; 2112],
+    facs: &'a [u8; 2112],
+    impls: &'a [u8; 8448],
+    c: usize,
+    query: OfComponent,
+) -> Room
+    requires { ⌜ Ready (now sets) (now numbers) (now comps) (now vers) (now facs) (now impls) ⌝ }
+    ensures { λ r. ⌜ Puts (lines i (asked (stateOf (now (sets .entry)) (now (numbers .entry)) (now (comps .entry)) (now (vers .entry)) (now (facs .entry)) (now (impls .entry))) (queryOf query c))) room r (now (out .entry)) (now (out .exit)) ⌝ }
+{
+    match query {
+        OfComponent::Supplies => put_supplies(
+            out,
+            room,
+            i,
+            sets,
+            numbers,
+            comps,
+            vers,
+            facs,
+            impls,
+            c,
+        ),
+        OfComponent::Standard => put_standard(
+            out,
+            room,
+            i,
+            sets,
+            numbers,
+            comps,
+            vers,
+            facs,
+            impls,
+            c,
+        ),
+        OfComponent::WhereUsed => put_whereused(
+            out,
+            room,
+            i,
+            sets,
+            numbers,
+            comps,
+            vers,
+            facs,
+            impls,
+            c,
+        ),
+    }
+}
+
+// The query of the component with this name.
+fn put_named_component<'a>(
+    out: &mut [u8],
+    room: Room,
+    i: usize,
+    sets: &'a [u64; 576],
+    numbers: &'a [u8; 8768],
+    comps: &'a [u8; 1056],
+    vers: &'a [u8; 2112],
+    facs: &'a [u8; 2112],
+    impls: &'a [u8; 8448],
+    word: &'a [u8],
+    query: OfComponent,
+) -> Room
+    requires { ⌜ Ready (now sets) (now numbers) (now comps) (now vers) (now facs) (now impls) ⌝ }
+    requires { ⌜ short (now word) ≡ true ⌝ }
+    ensures { λ r. ⌜ Carried i (stateOf (now (sets .entry)) (now (numbers .entry)) (now (comps .entry)) (now (vers .entry)) (now (facs .entry)) (now (impls .entry)))
+        (stateOf (now (sets .entry)) (now (numbers .entry)) (now (comps .entry)) (now (vers .entry)) (now (facs .entry)) (now (impls .entry)))
+        room r (now (out .entry)) (now (out .exit)) (askedOf query (now (word .entry))) ⌝ }
+{
+    let names::Found::At(c) = names::lookup(comps, 32, word) else {
+        return listing::put_answer(out, room, i, 4);
+    };
+    put_of_component(
+        out,
+        room,
+        i,
+        sets,
+        numbers,
+        comps,
+        vers,
+        facs,
+        impls,
+        c,
+        query,
+    )
+}
+
+// A query of one component, from behind its first word.
+pub fn show_component<'a>(
+    out: &mut [u8],
+    room: Room,
+    i: usize,
+    sets: &'a [u64; 576],
+    numbers: &'a [u8; 8768],
+    comps: &'a [u8; 1056],
+    vers: &'a [u8; 2112],
+    facs: &'a [u8; 2112],
+    impls: &'a [u8; 8448],
+    text: &'a [u8],
+    at: usize,
+    query: OfComponent,
+) -> Shown
+    requires { ⌜ Ready (now sets) (now numbers) (now comps) (now vers) (now facs) (now impls) ⌝ }
+    requires { ⌜ at ≤ length (now text) ⌝ }
+    ensures { λ r. ⌜ Answers (ofOne (askedOf query)) (Carried i (stateOf (now (sets .entry)) (now (numbers .entry)) (now (comps .entry)) (now (vers .entry)) (now (facs .entry)) (now (impls .entry)))
+        (stateOf (now (sets .entry)) (now (numbers .entry)) (now (comps .entry)) (now (vers .entry)) (now (facs .entry)) (now (impls .entry)))
+        room (r .room) (now (out .entry)) (now (out .exit))) (now (text .entry)) at (r .there) (r .end) ⌝ }
+    ensures { λ r. ⌜ Unread (r .there) room (r .room) (now (out .entry)) (now (out .exit)) ⌝ }
+{
+    let w = language::read_one(text, at);
+    if !w.there {
+        return Shown {
+            there: false,
+            end: at,
+            room: room,
+        };
+    }
+    let a = w.start;
+    let e = w.end;
+    let after = put_named_component(
+        out,
+        room,
+        i,
+        sets,
+        numbers,
+        comps,
+        vers,
+        facs,
+        impls,
+        words::word(text, a, e),
+        query,
+    );
+    Shown {
+        there: true,
+        end: e,
+        room: after,
+    }
+}
+
+// ---- of the whole book
+
+// "undefined"
+pub fn show_undefined<'a>(
+    out: &mut [u8],
+    room: Room,
+    i: usize,
+    sets: &'a [u64; 576],
+    numbers: &'a [u8; 8768],
+    comps: &'a [u8; 1056],
+    vers: &'a [u8; 2112],
+    facs: &'a [u8; 2112],
+    impls: &'a [u8; 8448],
+) -> Room
+    requires { ⌜ Ready (now sets) (now numbers) (now comps) (now vers) (now facs) (now impls) ⌝ }
+    ensures { λ r. ⌜ Carried i (stateOf (now (sets .entry)) (now (numbers .entry)) (now (comps .entry)) (now (vers .entry)) (now (facs .entry)) (now (impls .entry)))
+        (stateOf (now (sets .entry)) (now (numbers .entry)) (now (comps .entry)) (now (vers .entry)) (now (facs .entry)) (now (impls .entry)))
+        room r (now (out .entry)) (now (out .exit)) UNDEFINED ⌝ }
+{
+    let found = queries::undefined_in(sets, numbers);
+    put_numbers(out, room, i, comps, 32, found.answer, found.set)
+}
+
+// "unused"
+pub fn show_unused<'a>(
+    out: &mut [u8],
+    room: Room,
+    i: usize,
+    sets: &'a [u64; 576],
+    numbers: &'a [u8; 8768],
+    comps: &'a [u8; 1056],
+    vers: &'a [u8; 2112],
+    facs: &'a [u8; 2112],
+    impls: &'a [u8; 8448],
+) -> Room
+    requires { ⌜ Ready (now sets) (now numbers) (now comps) (now vers) (now facs) (now impls) ⌝ }
+    ensures { λ r. ⌜ Carried i (stateOf (now (sets .entry)) (now (numbers .entry)) (now (comps .entry)) (now (vers .entry)) (now (facs .entry)) (now (impls .entry)))
+        (stateOf (now (sets .entry)) (now (numbers .entry)) (now (comps .entry)) (now (vers .entry)) (now (facs .entry)) (now (impls .entry)))
+        room r (now (out .entry)) (now (out .exit)) UNUSED ⌝ }
+{
+    let found = queries::unused_in(sets, numbers);
+    put_numbers(out, room, i, comps, 32, found.answer, found.set)
+}
+
+// ""out" is followed by the book's text"
+pub fn show_text<'a>(
+    out: &mut [u8],
+    room: Room,
+    i: usize,
+    sets: &'a [u64; 576],
+    numbers: &'a [u8; 8768],
+    comps: &'a [u8; 1056],
+    vers: &'a [u8; 2112],
+    facs: &'a [u8; 2112],
+    impls: &'a [u8; 8448],
+) -> Room
+    ensures { λ r. ⌜ Carried i (stateOf (now (sets .entry)) (now (numbers .entry)) (now (comps .entry)) (now (vers .entry)) (now (facs .entry)) (now (impls .entry)))
+        (stateOf (now (sets .entry)) (now (numbers .entry)) (now (comps .entry)) (now (vers .entry)) (now (facs .entry)) (now (impls .entry)))
+        room r (now (out .entry)) (now (out .exit)) OUT ⌝ }
+{
+    let a = listing::put_answer(out, room, i, 0);
+    listing::put_text(out, a, sets, numbers, comps, vers, facs, impls)
+}

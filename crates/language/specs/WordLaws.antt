@@ -156,6 +156,7 @@ module _ (t : Text) (at : ℕ) (r : Token) (s : Reads t at (nextToken (drop at t
     begins = λ h. absurd (omega arith);
     from = λ h. absurd (omega arith);
     inside = λ h. absurd (omega arith);
+    numbered = omega arith;
   }
 
   pub command-quoted : (z a e : ℕ) → r ≡ Quoted a e → CommandAt t at 28 z
@@ -178,6 +179,7 @@ module _ (t : Text) (at : ℕ) (r : Token) (s : Reads t at (nextToken (drop at t
     begins = λ h. absurd (omega arith);
     from = λ h. absurd (omega arith);
     inside = λ h. absurd (omega arith);
+    numbered = omega arith;
   }
 
   pub command-span : (a e : ℕ) → r ≡ Word a e → Span t a e
@@ -203,6 +205,7 @@ module _ (t : Text) (at : ℕ) (r : Token) (s : Reads t at (nextToken (drop at t
             begins = λ h. absurd (omega arith);
             from = λ h. absurd (omega arith);
             inside = λ h. absurd (omega arith);
+            numbered = omega arith;
           })
       | inr b ↦ (let m : n ≡ keyNumber here = p ∙ if-false _ _ _ b in
           let small = key-small here in
@@ -215,5 +218,6 @@ module _ (t : Text) (at : ℕ) (r : Token) (s : Reads t at (nextToken (drop at t
                 ∙ ap (λ (i : ℕ). byWord grammar (nameAt keywords n) (drop i t)) (sym d);
             from = λ h. omega arith;
             inside = λ h. omega arith;
+            numbered = omega arith;
           })
     ]

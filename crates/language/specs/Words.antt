@@ -37,3 +37,4 @@ pub record CommandAt (t : Text) (at n e : ℕ) : Type 0 where
   pub begins : n < 28 → command (drop at t) ≡ byWord grammar (nameAt keywords n) (drop e t)
   pub from : n < 28 → at ≤ e
   pub inside : n < 28 → e ≤ length t
+  pub numbered : n ≤ 29

@@ -1,22 +1,32 @@
 -- The three ways of a step: the session is over, what comes next is not of the language, or it is a command.
-use mathlib.Core.Bool.{Bool, false, true}
+use mathlib.Core.Bool.{Bool, false, not, true}
 use mathlib.Core.List.{List, [], _++_}
+use mathlib.Core.Logic.{inl, inr}
 use mathlib.Core.Path.{_∙_, _≡_, ap, refl, subst, sym}
 use Prim.Native.Nat.{_+_, _-_, _<_, _≤_, suc, ℕ}
 use native.Mathlib.Omega.{arith}
+use borrow.Author.Tests.{not-false, not-true}
 use lib.ListN.{drop, length, length-drop}
+use Rattle.language.specs.Readers.{Answers, Got}
+use Rattle.language.specs.Words.{CommandAt}
 use Rattle.listing.specs.Room.{Puts}
 use Rattle.listing.specs.RoomLaws.{puts-none}
 use Rattle.listing.specs.declared.Room.{Room}
-use Rattle.sets.specs.TestLaws.{clash}
-use Rattle.states.specs.Carried.{Carried}
+use Rattle.sets.specs.TestLaws.{<?-no, <?-out, bool?, clash}
+use Rattle.sets.specs.Tests.{_<?_}
+use Rattle.states.specs.Carried.{Carried, Decides}
+use Rattle.states.specs.CarriedLaws.{decides-carried}
 use Rattle.text.specs.Bytes.{Text}
-use Rattle.text.specs.Language.{Read, Said, command, over, said, wrong}
+use Rattle.text.specs.Language.{Read, Reader, Said, command, over, readAs, said, wrong}
 use Rattle.text.specs.Session.{State, afterwards, carry, decimal, lines, onRead, row, sessionFrom}
 use Rattle.text_theorems.specs.Bounds.{session-step}
 use Rattle.text_theorems.specs.Left.{left-length}
 use Rattle.text_theorems.specs.Takes.{LeftR, command-left}
-use Rattle.steps.specs.Stepped.{Stepped, sessionAt}
+use Rattle.steps.specs.FormLaws.{form-read, no-form}
+use Rattle.steps.specs.Forms.{formOf, readerOf}
+use Rattle.steps.specs.Stepped.{Behind, Stepped, sessionAt}
+use Rattle.steps.specs.declared.Form.{Form}
+use Rattle.steps.specs.declared.Form.the-variants.{Nothing}
 
 at-read : (i : ℕ) (s : State) (t : Text) (at : ℕ) (r : Read) → command (drop at t) ≡ r
     → sessionAt i s t at ≡ onRead (λ s′ u. sessionFrom (length u) (suc i) s′ u) i s r
@@ -63,3 +73,82 @@ module _ (i : ℕ) (t : Text) (at : ℕ) (s : State) (p : Room) (old : List ℕ)
     inside = λ y. m;
     ends = λ y. clash refl y;
   }
+
+-- ---- behind the first word
+
+module _ {k : Reader Said} {i : ℕ} {t : Text} {at : ℕ} {s s′ : State} {p q : Room} {old new : List ℕ} where
+  pub behind-decided : {a e : ℕ} {there : Bool} → Answers k (Decides s s′ a) t at there e → not there ≡ false
+      → Puts (row i (decimal a)) p q old new → Behind k i t at s s′ p q old new true e
+  behind-decided {a} d h r =
+      let g = d .yes (not-false _ h) in
+      record {
+        read = λ y. record {
+          value = g .value;
+          is = g .is;
+          took = decides-carried i a s s′ p q old new (g .value) (g .took) r;
+          from = g .from;
+          inside = g .inside;
+        };
+        unread = λ y. clash refl y;
+        refused = λ y. clash refl y;
+        unchanged = λ y. clash refl y;
+      }
+
+  pub behind-unread : {R : Said → Type 0} {e z : ℕ} {there : Bool} → Answers k R t at there e → not there ≡ true → s′ ≡ s
+      → Puts (row i (decimal 23)) p q old new → Behind k i t at s s′ p q old new false z
+  behind-unread d h c r = record {
+    read = λ y. clash y refl;
+    unread = λ y. d .no (not-true _ h);
+    refused = λ y. r;
+    unchanged = λ y. c;
+  }
+
+  pub behind-shown : {e : ℕ} {there : Bool} → Answers k (Carried i s s′ p q old new) t at there e → not there ≡ false
+      → Behind k i t at s s′ p q old new true e
+  behind-shown d h = record {
+    read = λ y. d .yes (not-false _ h);
+    unread = λ y. clash refl y;
+    refused = λ y. clash refl y;
+    unchanged = λ y. clash refl y;
+  }
+
+-- ---- the whole step
+
+below : {n : ℕ} → (28 ≤ n → ⊥) → n < 28
+below h = omega (arith, h)
+
+module _ {t : Text} {at n e : ℕ} (l : at ≤ length t) (c : CommandAt t at n e) where
+  found-as : n < 28 → (f : Form) → formOf n ≡ f → command (drop at t) ≡ readAs (readerOf f (drop e t))
+  found-as b f h = c .begins b ∙ form-read n b (drop e t) ∙ ap (λ (g : Form). readAs (readerOf g (drop e t))) h
+
+  begun : (f : Form) → formOf n ≡ f → (f ≡ Nothing → ⊥) → n < 28
+  begun f h h′ = below (λ j. h′ (sym h ∙ sym (no-form n j)))
+
+  pub begun-inside : (f : Form) → formOf n ≡ f → (f ≡ Nothing → ⊥) → e ≤ length t
+  begun-inside f h h′ = c .inside (begun f h h′)
+
+  pub steps-behind : {i : ℕ} {s s′ : State} {p q : Room} {old new : List ℕ} {more : Bool} {z : ℕ} (f : Form) → formOf n ≡ f → (f ≡ Nothing → ⊥)
+      → Behind (readerOf f) i t e s s′ p q old new more z → Stepped i t at s s′ p q old new more z
+  unfolding readAs
+  steps-behind {i} {s} {s′} {p} {q} {old} {new} {more} {z} f h h′ d = elim (bool? more) [
+    | inl y ↦ (let g = d .read y in
+        subst (λ (b : Bool). Stepped i t at s s′ p q old new b z) (sym y)
+        (step-said i t at s p old s′ q new (g .value) z l (g .inside) (command-is ∙ ap readAs (g .is)) (g .took)))
+    | inr y ↦ subst (λ (b : Bool). Stepped i t at s s′ p q old new b z) (sym y)
+        (subst (λ (u : State). Stepped i t at s u p q old new false z) (sym (d .unchanged y))
+        (step-wrong i t at s p old q new z (command-is ∙ ap readAs (d .unread y)) (d .refused y)))
+  ]
+    where
+      command-is : command (drop at t) ≡ readAs (readerOf f (drop e t))
+      command-is = found-as (begun f h h′) f h
+
+  pub steps-nothing : {i : ℕ} {s : State} {p q : Room} {old new : List ℕ} (z : ℕ) → (n ≡ 29 → ⊥) → formOf n ≡ Nothing
+      → Puts (row i (decimal 23)) p q old new → Stepped i t at s s p q old new false z
+  unfolding readAs readerOf
+  steps-nothing {i} {s} {p} {q} {old} {new} z a h r = step-wrong i t at s p old q new z not-read r
+    where
+      not-read : command (drop at t) ≡ wrong
+      not-read = elim (bool? (n <? 28)) [
+        | inl y ↦ found-as (<?-out _ _ y) Nothing h
+        | inr y ↦ c .none-there (let j = <?-no _ _ y in let m = c .numbered in omega (arith, a))
+      ]

@@ -1,19 +1,32 @@
 -- One step of a session: from position `at` on the next command, number i, is read and carried out.
 use mathlib.Core.Bool.{Bool, false, true}
 use mathlib.Core.List.{List, _++_}
+use mathlib.Core.Option.{none}
 use mathlib.Core.Path.{_≡_}
 use Prim.Native.Nat.{_<_, _≤_, suc, ℕ}
 use lib.ListN.{drop, length}
+use Rattle.language.specs.Readers.{Got}
 use Rattle.listing.specs.Room.{Puts}
 use Rattle.listing.specs.declared.Room.{Room}
+use Rattle.states.specs.Carried.{Carried}
 use Rattle.text.specs.Bytes.{Text}
-use Rattle.text.specs.Session.{State, sessionFrom}
+use Rattle.text.specs.Language.{Reader, Said}
+use Rattle.text.specs.Session.{State, decimal, row, sessionFrom}
 
 -- the session from position `at` of the text on, in the state s and with command number i
 unfoldable pub sessionAt : ℕ → State → Text → ℕ → Text × State
 sessionAt i s t at = sessionFrom (length (drop at t)) i s (drop at t)
 
--- s′ is the state afterwards; `rows` are put. If there is more, the session goes on at e, behind `at`.
+-- The command that the reader k reads from position `at` on: if there is one, up to e, it is carried out; if not, the row says 23 and
+-- nothing is changed.
+pub record Behind (k : Reader Said) (i : ℕ) (t : Text) (at : ℕ) (s s′ : State) (p q : Room) (old new : List ℕ) (more : Bool) (e : ℕ)
+    : Type 0 where
+  pub read : more ≡ true → Got k (Carried i s s′ p q old new) t at e
+  pub unread : more ≡ false → k (drop at t) ≡ none
+  pub refused : more ≡ false → Puts (row i (decimal 23)) p q old new
+  pub unchanged : more ≡ false → s′ ≡ s
+
+-- The whole step: s′ is the state afterwards; `rows` are put. If there is more, the session goes on at e, behind `at`.
 pub record Stepped (i : ℕ) (t : Text) (at : ℕ) (s s′ : State) (p q : Room) (old new : List ℕ) (more : Bool) (e : ℕ) : Type 0 where
   pub rows : Text
   pub puts : Puts rows p q old new

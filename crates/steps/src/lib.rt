@@ -1,6 +1,26 @@
 // One step of a session: the next command of the text is read and carried out.
 ghost use mathlib.Core.Path.{_≡_};
-ghost use Rattle.steps.specs.Forms.{formOf};
+ghost use mathlib.Core.Bool.{false};
+ghost use Prim.Native.Nat.{_≤_};
+ghost use lib.ListN.{length};
+ghost use Rattle.language.specs.Readers.{Answers};
+ghost use Rattle.states.specs.Carried.{Carried, Decides, Unread};
+ghost use Rattle.states.specs.State.{Ready, stateOf};
+ghost use Rattle.steps.specs.Forms.{commandOf, formOf, queryOf};
+ghost use Rattle.steps.specs.Stepped.{Behind, Stepped};
+use adding::add_mod;
+use adding::add_modvar;
+use adding::add_spec;
+use adding::add_sys;
+use adding::add_sysvar;
+use language::OVER;
+use listing::Room;
+use removing::remove_component;
+use removing::remove_version;
+use removing::Component;
+use removing::Version;
+use states::Decision;
+use states::Shown;
 
 // The ten commands.
 pub enum Command {
@@ -70,5 +90,150 @@ fn form_of(k: usize) -> Form
         26 => Form::Changes(Command::DelSysvar),
         27 => Form::Asks(Query::Parts),
         _ => Form::Nothing,
+    }
+}
+
+// One of the ten commands, whose first word is read: its answer, and its change of book and tables.
+fn decide(
+    sets: &mut [u64; 576],
+    numbers: &mut [u8; 8768],
+    comps: &mut [u8; 1056],
+    vers: &mut [u8; 2112],
+    facs: &mut [u8; 2112],
+    impls: &mut [u8; 8448],
+    text: &[u8],
+    at: usize,
+    command: Command,
+) -> Decision
+    requires { ⌜ Ready (now sets) (now numbers) (now comps) (now vers) (now facs) (now impls) ⌝ }
+    requires { ⌜ at ≤ length (now text) ⌝ }
+    ensures { λ r. ⌜ Ready (now (sets .exit)) (now (numbers .exit)) (now (comps .exit)) (now (vers .exit)) (now (facs .exit)) (now (impls .exit)) ⌝ }
+    ensures { λ r. ⌜ Answers (commandOf command) (Decides (stateOf (now (sets .entry)) (now (numbers .entry)) (now (comps .entry)) (now (vers .entry)) (now (facs .entry)) (now (impls .entry))) (stateOf (now (sets .exit)) (now (numbers .exit)) (now (comps .exit)) (now (vers .exit)) (now (facs .exit)) (now (impls .exit))) (r .answer)) (now (text .entry)) at (r .there) (r .end) ⌝ }
+    ensures { λ r. ⌜ (r .there ≡ false → stateOf (now (sets .exit)) (now (numbers .exit)) (now (comps .exit)) (now (vers .exit)) (now (facs .exit)) (now (impls .exit)) ≡ stateOf (now (sets .entry)) (now (numbers .entry)) (now (comps .entry)) (now (vers .entry)) (now (facs .entry)) (now (impls .entry))) ⌝ }
+{
+    match command {
+        Command::AddSpec => add_spec(sets, numbers, comps, vers, facs, impls, text, at),
+        Command::AddMod => add_mod(sets, numbers, comps, vers, facs, impls, text, at),
+        Command::AddSys => add_sys(sets, numbers, comps, vers, facs, impls, text, at),
+        Command::AddModvar => add_modvar(sets, numbers, comps, vers, facs, impls, text, at),
+        Command::AddSysvar => add_sysvar(sets, numbers, comps, vers, facs, impls, text, at),
+        Command::DelSpec => remove_component(sets, numbers, comps, vers, facs, impls, text, at, Component::Spec),
+        Command::DelMod => remove_component(sets, numbers, comps, vers, facs, impls, text, at, Component::Module),
+        Command::DelSys => remove_component(sets, numbers, comps, vers, facs, impls, text, at, Component::System),
+        Command::DelModvar => remove_version(sets, numbers, comps, vers, facs, impls, text, at, Version::Module),
+        Command::DelSysvar => remove_version(sets, numbers, comps, vers, facs, impls, text, at, Version::System),
+    }
+}
+
+// A step of a session: whether there is more, the position at which it goes on, and the room that is left.
+pub struct Advance {
+    pub more: bool,
+    pub end: usize,
+    pub room: Room,
+}
+
+// "Is the command of the language? no: 23, and the session ends."
+const NOT_OF_THE_LANGUAGE: usize = 23;
+
+// One of the ten commands, whose first word is read: its row, and its change of book and tables.
+fn change(
+    sets: &mut [u64; 576],
+    numbers: &mut [u8; 8768],
+    comps: &mut [u8; 1056],
+    vers: &mut [u8; 2112],
+    facs: &mut [u8; 2112],
+    impls: &mut [u8; 8448],
+    text: &[u8],
+    at: usize,
+    i: usize,
+    out: &mut [u8],
+    room: Room,
+    command: Command,
+) -> Advance
+    requires { ⌜ Ready (now sets) (now numbers) (now comps) (now vers) (now facs) (now impls) ⌝ }
+    requires { ⌜ at ≤ length (now text) ⌝ }
+    ensures { λ r. ⌜ Ready (now (sets .exit)) (now (numbers .exit)) (now (comps .exit)) (now (vers .exit)) (now (facs .exit)) (now (impls .exit)) ⌝ }
+    ensures { λ r. ⌜ Behind (commandOf command) i (now (text .entry)) at (stateOf (now (sets .entry)) (now (numbers .entry)) (now (comps .entry)) (now (vers .entry)) (now (facs .entry)) (now (impls .entry))) (stateOf (now (sets .exit)) (now (numbers .exit)) (now (comps .exit)) (now (vers .exit)) (now (facs .exit)) (now (impls .exit))) room (r .room) (now (out .entry)) (now (out .exit)) (r .more) (r .end) ⌝ }
+{
+    let d = decide(sets, numbers, comps, vers, facs, impls, text, at, command);
+    if !d.there {
+        return Advance {
+            more: false,
+            end: at,
+            room: listing::put_answer(out, room, i, NOT_OF_THE_LANGUAGE),
+        };
+    }
+    let answer = d.answer;
+    Advance {
+        more: true,
+        end: d.end,
+        room: listing::put_answer(out, room, i, answer),
+    }
+}
+
+// A query, whose first word is read: its rows, or 23.
+fn ask<'a>(
+    out: &mut [u8],
+    room: Room,
+    i: usize,
+    sets: &'a [u64; 576],
+    numbers: &'a [u8; 8768],
+    comps: &'a [u8; 1056],
+    vers: &'a [u8; 2112],
+    facs: &'a [u8; 2112],
+    impls: &'a [u8; 8448],
+    text: &'a [u8],
+    at: usize,
+    query: Query,
+) -> Advance
+    requires { ⌜ Ready (now sets) (now numbers) (now comps) (now vers) (now facs) (now impls) ⌝ }
+    requires { ⌜ at ≤ length (now text) ⌝ }
+    ensures { λ r. ⌜ Behind (queryOf query) i (now (text .entry)) at (stateOf (now (sets .entry)) (now (numbers .entry)) (now (comps .entry)) (now (vers .entry)) (now (facs .entry)) (now (impls .entry))) (stateOf (now (sets .entry)) (now (numbers .entry)) (now (comps .entry)) (now (vers .entry)) (now (facs .entry)) (now (impls .entry))) room (r .room) (now (out .entry)) (now (out .exit)) (r .more) (r .end) ⌝ }
+{
+    Advance {
+        more: false,
+        end: at,
+        room: room,
+    }
+}
+
+// The next command of the text, the i-th: its rows, and its change of book and tables.
+pub fn step(
+    sets: &mut [u64; 576],
+    numbers: &mut [u8; 8768],
+    comps: &mut [u8; 1056],
+    vers: &mut [u8; 2112],
+    facs: &mut [u8; 2112],
+    impls: &mut [u8; 8448],
+    text: &[u8],
+    at: usize,
+    i: usize,
+    out: &mut [u8],
+    room: Room,
+) -> Advance
+    requires { ⌜ Ready (now sets) (now numbers) (now comps) (now vers) (now facs) (now impls) ⌝ }
+    requires { ⌜ at ≤ length (now text) ⌝ }
+    ensures { λ r. ⌜ Ready (now (sets .exit)) (now (numbers .exit)) (now (comps .exit)) (now (vers .exit)) (now (facs .exit)) (now (impls .exit)) ⌝ }
+    ensures { λ r. ⌜ Stepped i (now (text .entry)) at (stateOf (now (sets .entry)) (now (numbers .entry)) (now (comps .entry)) (now (vers .entry)) (now (facs .entry)) (now (impls .entry))) (stateOf (now (sets .exit)) (now (numbers .exit)) (now (comps .exit)) (now (vers .exit)) (now (facs .exit)) (now (impls .exit))) room (r .room) (now (out .entry)) (now (out .exit)) (r .more) (r .end) ⌝ }
+{
+    let w = language::read_command(text, at);
+    let k = w.number;
+    if k == OVER {
+        return Advance {
+            more: false,
+            end: at,
+            room: room,
+        };
+    }
+    let e = w.end;
+    let form = form_of(k);
+    match form {
+        Form::Changes(c) => change(sets, numbers, comps, vers, facs, impls, text, e, i, out, room, c),
+        Form::Asks(q) => ask(out, room, i, sets, numbers, comps, vers, facs, impls, text, e, q),
+        Form::Nothing => Advance {
+            more: false,
+            end: at,
+            room: listing::put_answer(out, room, i, NOT_OF_THE_LANGUAGE),
+        },
     }
 }

@@ -9,7 +9,7 @@ use borrow.Author.Tests.{not-false, not-true}
 use lib.ListN.{length}
 use Rattle.book.specs.Plain.{plainOf}
 use Rattle.language.specs.Choices.{ChoiceAsked}
-use Rattle.language.specs.Readers.{Answers, Span}
+use Rattle.language.specs.Readers.{Answers}
 use Rattle.language.specs.TokenLaws.{answer-yes}
 use Rattle.language.specs.Words.{OneSaid, PairSaid}
 use Rattle.language.specs.declared.Known.{Known}
@@ -32,7 +32,7 @@ use Rattle.states.specs.Carried.{Carried, Unread}
 use Rattle.states.specs.State.{stateOf}
 use Rattle.text.specs.Bytes.{Text, short}
 use Rattle.text.specs.Language.{CHOICE, Name, Reader, Said, choice, ofOne, ofPair}
-use Rattle.text.specs.Session.{Result, State, afterwards, asked, carry, decimal, forComponent, forPair, lines, ofComponent, ofVersion, refused, row, rows}
+use Rattle.text.specs.Session.{State, afterwards, asked, carry, decimal, forComponent, forPair, lines, ofComponent, ofVersion, refused, row, rows}
 use Rattle.text.specs.Tables.{numbers, place}
 use Rattle.text_theorems.specs.Places.{place-name}
 use Rattle.words.specs.Reading.{part}
@@ -148,7 +148,7 @@ module _ (i : ℕ) (k : OfVersion) where
     version-no-component h z = carried i now (askedOfVersion k w x) (refused 4) (carry-is none _ (found-nothing g _ e h) refl) refl z
 
     module _ (d : ℕ) (h : g ≡ At d) (g′ : Found) (e′ : answered g′ ≡ place (tableOf versions v) x) where
-      -- "10" where the component is specified
+      -- a version without a number: 10 where the component is specified, else 4
       pub version-no-number : {p q : Room} {old new : List ℕ} → g′ ≡ Nothing → (a : ℕ) → a ≡ (if specified (plainOf s n .specs) d then 10 else 4) → Puts (row i (decimal a)) p q old new
           → Carried i now now p q old new (askedOfVersion k w x)
       unfolding forPair

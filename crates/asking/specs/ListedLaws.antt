@@ -2,7 +2,7 @@
 use mathlib.Core.Bool.{Bool, true}
 use mathlib.Core.List.{List, [], _++_, _∷_, map}
 use mathlib.Core.Logic.{inl, inr}
-use mathlib.Core.Path.{_∙_, _≡_, ap, ap₂, fun-ext, refl, subst, sym}
+use mathlib.Core.Path.{_∙_, _≡_, ap, ap₂, refl, subst, sym}
 use Prim.Native.Nat.{_%_, _*_, _+_, _/_, _<_, _^_, _≤_, suc, zero, zero-le, ℕ}
 use native.Mathlib.Omega.{arith}
 use lib.ListN.{drop, length, length-append, length-map, take}
@@ -13,10 +13,10 @@ use Rattle.listing.specs.RoomLaws.{puts-as}
 use Rattle.listing.specs.Written.{pair-row, pairOf}
 use Rattle.listing.specs.declared.Room.{Room}
 use Rattle.model.specs.Book.{Book, Pair, facilities, hasVersion, provides, versions}
-use Rattle.model.specs.Lists.{elem, every, from, rising, setOf}
+use Rattle.model.specs.Lists.{every, rising, setOf}
 use Rattle.model.specs.PartsList.{listed, nextRow, parts, rowsFrom}
-use Rattle.model.specs.Queries.{CHOICE, PARTS, Reply, asked, choice, found, pairsFrom, refused, risingPairs, thePairs, theParts}
-use Rattle.model.specs.Questions.{Question, eachBelow, firstNo}
+use Rattle.model.specs.Queries.{CHOICE, PARTS, Reply, asked, choice, found, pairsFrom, refused, risingPairs, thePairs}
+use Rattle.model.specs.Questions.{eachBelow, firstNo}
 use Rattle.names.specs.Stored.{tablesOf}
 use Rattle.parts.specs.Listed.{partsAnswer, partsAsked, rowNumber}
 use Rattle.parts.specs.Listed as parts-call

@@ -3,7 +3,6 @@ use mathlib.Core.Bool.{Bool, false, not, true}
 use mathlib.Core.List.{List, [], _++_, _∷_, map}
 use mathlib.Core.Path.{_∙_, _≡_, ap, ap₂, refl, subst, sym}
 use Prim.Native.Nat.{_%_, _+_, _-_, _/_, _<_, _≤_, suc, ℕ}
-use native.Mathlib.Nat.{add-zero}
 use native.Mathlib.Omega.{arith}
 use lib.ListN.{drop, drop-of-length-le, getD, length, take}
 use lib.Seq.{drop-cons, getD-take, length-take-le}

@@ -153,6 +153,7 @@ pub enum OfComponent {
     WhereUsed,
 }
 
+// The queries of the component with the number c, one by one.
 fn put_supplies<'a>(
     out: &mut [u8],
     room: Room,
@@ -215,7 +216,7 @@ fn put_standard<'a>(
     listing::put_name(out, a, i, listing::name(vers, 64, v))
 }
 
-// The query of the component with the number c.
+// The one that is asked for.
 fn put_of_component<'a>(
     out: &mut [u8],
     room: Room,
@@ -370,6 +371,7 @@ pub enum OfVersion {
     Parts,
 }
 
+// The queries of version v of component c, one by one.
 fn put_needs<'a>(
     out: &mut [u8],
     room: Room,
@@ -406,12 +408,13 @@ fn put_parts<'a>(
     requires { ⌜ Ready (now sets) (now numbers) (now comps) (now vers) (now facs) (now impls) ⌝ }
     ensures { λ r. ⌜ Puts (lines i (asked (stateOf (now (sets .entry)) (now (numbers .entry)) (now (comps .entry)) (now (vers .entry)) (now (facs .entry)) (now (impls .entry))) (model.PARTS c v))) room r (now (out .entry)) (now (out .exit)) ⌝ }
 {
+    // 32 components with 8 versions each: no parts list has more rows
     let mut rows: [u16; 256] = [0; 256];
     let found = parts::parts_in(sets, numbers, c, v, &mut rows);
     put_listed(out, room, i, comps, vers, found.answer, &rows, found.rows)
 }
 
-// The query of the version v of c.
+// The one that is asked for.
 fn put_of_version<'a>(
     out: &mut [u8],
     room: Room,
@@ -548,7 +551,7 @@ pub fn show_version<'a>(
 
 // ---- of facilities
 
-// The components with their versions that provide the facilities wanted.
+// The pairs whose component provides the facilities wanted: the slice has a place for every pair.
 fn put_choice<'a>(
     out: &mut [u8],
     room: Room,

@@ -5,6 +5,8 @@ use Rattle.model.specs.Queries as model
 use Rattle.text.specs.Language.{NEEDS, Name, PARTS, STANDARD, SUPPLIES, Said, WHEREUSED}
 use Rattle.asking.specs.declared.OfComponent.{OfComponent}
 use Rattle.asking.specs.declared.OfComponent.the-variants.{Supplies, Standard, WhereUsed}
+use Rattle.asking.specs.declared.OfVersion.{OfVersion}
+use Rattle.asking.specs.declared.OfVersion.the-variants.{Needs, Parts}
 
 unfoldable pub askedOf : OfComponent → Name → Said
 askedOf Supplies = SUPPLIES
@@ -15,3 +17,11 @@ unfoldable pub queryOf : OfComponent → ℕ → Query
 queryOf Supplies = model.SUPPLIES
 queryOf Standard = model.STANDARD
 queryOf WhereUsed = model.WHEREUSED
+
+unfoldable pub askedOfVersion : OfVersion → Name → Name → Said
+askedOfVersion Needs = NEEDS
+askedOfVersion Parts = PARTS
+
+unfoldable pub queryOfVersion : OfVersion → ℕ → ℕ → Query
+queryOfVersion Needs = model.NEEDS
+queryOfVersion Parts = model.PARTS

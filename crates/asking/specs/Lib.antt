@@ -3,3 +3,4 @@ pub mod RowLaws
 pub mod Asked
 pub mod ShownLaws
 pub mod AskedLaws
+pub mod ListedLaws

@@ -1,23 +1,26 @@
 -- Laws of the loops that write rows.
 use mathlib.Core.Bool.{Bool, false, not, true}
 use mathlib.Core.List.{List, [], _++_, _∷_, map}
-use mathlib.Core.Path.{_∙_, _≡_, ap, ap₂, refl, sym}
+use mathlib.Core.Path.{_∙_, _≡_, ap, ap₂, refl, subst, sym}
 use Prim.Native.Nat.{_%_, _+_, _-_, _/_, _<_, _≤_, suc, ℕ}
-use native.Mathlib.Nat.{add-zero}
 use native.Mathlib.Omega.{arith}
-use lib.ListN.{drop, getD, length, take}
+use lib.ListN.{drop, drop-of-length-le, getD, length, take}
+use lib.Seq.{drop-cons, getD-take, length-take-le}
 use Rattle.listing.specs.Room.{Puts}
 use Rattle.listing.specs.RoomLaws.{Partly, if-asked, if-not-asked, partly-as, partly-end, partly-more, partly-start, puts-as, puts-then}
-use Rattle.listing.specs.WrittenLaws.{row-as}
+use Rattle.listing.specs.Written.{pairOf}
+use Rattle.listing.specs.WrittenLaws.{pair-row-as, row-as}
 use Rattle.listing.specs.declared.Room.{Room}
+use Rattle.model.specs.Book.{components, versions}
 use Rattle.model.specs.Lists.{from, keep, rising}
+use Rattle.names.specs.Stored.{tableOf}
 use Rattle.queries.specs.Replied.{numbersIn}
 use Rattle.sets.specs.Sets.{bit}
 use Rattle.sets.specs.Tests.{if_then_else_}
-use Rattle.text.specs.Bytes.{Text}
+use Rattle.text.specs.Bytes.{Text, bytes}
 use Rattle.text.specs.Session.{decimal, row}
 use Rattle.text.specs.Tables.{Table, joined, nameAt}
-use Rattle.asking.specs.Rows.{answerRows, namesIn, rowsOf}
+use Rattle.asking.specs.Rows.{answerRows, namesIn, pairIn, pairsIn, rowsOf}
 
 -- ---- the numbers of a set
 
@@ -67,3 +70,41 @@ pub answer-put : (i : ℕ) {a b : ℕ} → b ≡ a → (ws : List Text) {p q r :
     → Puts (answerRows i a ws) p r x z
 unfolding answerRows
 answer-put i e ws f g = puts-then (puts-as (ap (λ (n : ℕ). row i (decimal n)) e) f) g
+
+-- ---- pairs
+
+pub pair-put : (i : ℕ) (comps vers : List ℕ) {k x : ℕ} → k ≡ x → {v w : Text} {p q : Room} {a b : List ℕ} → v ≡ nameAt (tableOf components comps) (k / 64)
+    → w ≡ nameAt (tableOf versions vers) (k % 64) → Puts (row i (v ++ (bytes "," ++ w))) p q a b → Puts (row i (pairIn comps vers x)) p q a b
+unfolding pairIn
+pair-put i comps vers {k} e c d f =
+    puts-as (ap (λ (n : ℕ). row i (pairOf comps vers (n / 64) (n % 64))) e) (pair-row-as i comps vers (k / 64) (k % 64) c d f)
+
+-- those from k on are to come
+module _ (i : ℕ) (comps vers : List ℕ) (n : ℕ) (rows : List ℕ) where
+  unfoldable pub pairsFrom : ℕ → Text
+  pairsFrom k = rowsOf i (map (pairIn comps vers) (drop k (take n rows)))
+
+  pub pairs-start : (p : Room) (old : List ℕ) → Partly (rowsOf i (pairsIn comps vers n rows)) (pairsFrom 0) p p old old
+  unfolding pairsIn pairsFrom
+  pairs-start p old = partly-start _ p old
+
+  module _ (k : ℕ) (h : n ≤ length rows) {p q : Room} {a b : List ℕ} (f : Partly (rowsOf i (pairsIn comps vers n rows)) (pairsFrom k) p q a b) where
+    long : length (take n rows) ≡ n
+    long = length-take-le n rows h
+
+    pairs-next : k < n → pairsFrom k ≡ row i (pairIn comps vers (getD rows k 0)) ++ pairsFrom (k + 1)
+    unfolding pairsFrom rowsOf joined
+    pairs-next l =
+        let e : suc k ≡ k + 1 = omega arith in
+        ap (λ (xs : List ℕ). rowsOf i (map (pairIn comps vers) xs))
+        (drop-cons (take n rows) k 0 (subst (λ (m : ℕ). k < m) (sym long) l)
+        ∙ ap₂ (λ (x : ℕ) (xs : List ℕ). x ∷ xs) (getD-take n rows k 0 l) (ap (λ (m : ℕ). drop m (take n rows)) e))
+
+    pub pairs-turn : {r : Room} {c : List ℕ} → k < n → Puts (row i (pairIn comps vers (getD rows k 0))) q r b c
+        → Partly (rowsOf i (pairsIn comps vers n rows)) (pairsFrom (k + 1)) p r a c
+    pairs-turn l g = partly-more (partly-as (pairs-next l) f) g
+
+    pub pairs-end : n ≤ k → Puts (rowsOf i (pairsIn comps vers n rows)) p q a b
+    unfolding pairsFrom rowsOf joined
+    pairs-end l =
+        partly-end (partly-as (ap (λ (xs : List ℕ). rowsOf i (map (pairIn comps vers) xs)) (drop-of-length-le (take n rows) (subst (λ (m : ℕ). m ≤ k) (sym long) l))) f)

@@ -1,6 +1,7 @@
 -- The rows of a query's answer, as the code writes them.
 use mathlib.Core.List.{List, _++_, map}
 use Prim.Native.Nat.{_%_, _/_, ℕ}
+use lib.ListN.{take}
 use Rattle.listing.specs.Written.{pairOf}
 use Rattle.model.specs.Book.{versions}
 use Rattle.queries.specs.Replied.{numbersIn}
@@ -23,3 +24,7 @@ namesIn t set = map (nameAt t) (numbersIn set)
 -- the pair that the number k of a lent slice stands for, component × 64 + version
 unfoldable pub pairIn : List ℕ → List ℕ → ℕ → Text
 pairIn comps vers k = pairOf comps vers (k / versions) (k % versions)
+
+-- the pairs of the first n numbers of a slice
+unfoldable pub pairsIn : List ℕ → List ℕ → ℕ → List ℕ → List Text
+pairsIn comps vers n rows = map (pairIn comps vers) (take n rows)

@@ -1,9 +1,8 @@
 -- What a query replies, and the rows that show it.
-use mathlib.Core.Bool.{Bool, false, true}
-use mathlib.Core.List.{List, [], _++_, _∷_, append-nil, map}
+use mathlib.Core.List.{List, [], _∷_, append-nil, map}
 use mathlib.Core.Logic.{inl, inr}
-use mathlib.Core.Path.{_∙_, _≡_, ap, ap₂, refl, subst, sym}
-use Prim.Native.Nat.{_<_, _≤_, ℕ}
+use mathlib.Core.Path.{_∙_, _≡_, ap, refl, sym}
+use Prim.Native.Nat.{ℕ}
 use native.Mathlib.Omega.{arith}
 use Rattle.book.specs.Plain.{plainOf}
 use Rattle.listing.specs.Room.{Puts}
@@ -42,11 +41,11 @@ no-numbers t = ap (map (nameAt t)) (rising-narrow 0 64 (bit 0) (bit 0) (omega ar
     nothing : rising 0 (bit 0) ≡ []
     nothing = unfold rising from in refl
 
-answer-alone : (i a : ℕ) → answerRows i a [] ≡ row i (decimal a)
+pub answer-alone : (i a : ℕ) → answerRows i a [] ≡ row i (decimal a)
 unfolding answerRows rowsOf joined
 answer-alone i a = append-nil (row i (decimal a))
 
-accepted-rows : (i : ℕ) (rs : List Text) → answerRows i 0 rs ≡ lines i (rows rs)
+pub accepted-rows : (i : ℕ) (rs : List Text) → answerRows i 0 rs ≡ lines i (rows rs)
 unfolding lines answerRows rowsOf
 accepted-rows i rs = refl
 
@@ -99,7 +98,7 @@ carried i s x r e k f = record {
 }
 
 module _ (i : ℕ) (s n c v f m : List ℕ) (ready : Ready s n c v f m) (q : Query) where
-  asked-is : asked (stateOf s n c v f m) q ≡ shown (tablesOf c v f m) (repliedTo s n q)
+  pub asked-is : asked (stateOf s n c v f m) q ≡ shown (tablesOf c v f m) (repliedTo s n q)
   unfolding asked stateOf
   asked-is = ap (shown (tablesOf c v f m)) (sym (to-reply s n q (ready .passes)))
 

@@ -230,13 +230,13 @@ pub fn add_mod(
 }
 
 // "sys", from behind that word.
-pub fn add_sys<'a>(
+pub fn add_sys(
     sets: &mut [u64; 576],
     numbers: &mut [u8; 8768],
     comps: &mut [u8; 1056],
     vers: &mut [u8; 2112],
-    facs: &'a [u8; 2112],
-    impls: &'a [u8; 8448],
+    facs: &[u8; 2112],
+    impls: &[u8; 8448],
     text: &[u8],
     at: usize,
 ) -> Decision
@@ -306,13 +306,13 @@ pub fn add_modvar(
 }
 
 // "sysvar", from behind that word.
-pub fn add_sysvar<'a>(
+pub fn add_sysvar(
     sets: &mut [u64; 576],
     numbers: &mut [u8; 8768],
     comps: &mut [u8; 1056],
     vers: &mut [u8; 2112],
-    facs: &'a [u8; 2112],
-    impls: &'a [u8; 8448],
+    facs: &[u8; 2112],
+    impls: &[u8; 8448],
     text: &[u8],
     at: usize,
 ) -> Decision

@@ -5,6 +5,7 @@ use mathlib.Core.Path.{_≡_}
 use Prim.Native.Nat.{ℕ}
 use Rattle.commands.specs.declared.Outcome.{Outcome}
 use Rattle.model.specs.Commands.{Command}
+use Rattle.states.specs.declared.Decision.{Decision}
 use Rattle.text.specs.Language.{Said}
 use Rattle.text.specs.Session.{State, add, carry}
 use Rattle.text.specs.Tables.{Tables, entered, fits}
@@ -24,3 +25,10 @@ pub record Adds (t t′ : Tables) (room : Bool) (P : Command → Type 0) (x : Sa
   pub placed : room ≡ fits (entered t names)
   pub tables : room ≡ true → t′ ≡ entered t names
   pub asks : room ≡ true → P (numbered t′)
+
+-- "Text questions come before all others. Is the command of the language? no: 23 .. Adding commands: is there a place for each new name?
+-- no: 24." The decision d where one of the two has its no: `there` says that it is not the first, and e is then the command's end.
+pub record Unasked (there : Bool) (e : ℕ) (d : Decision) : Type 0 where
+  pub there-is : d .there ≡ there
+  pub end-is : there ≡ true → d .end ≡ e
+  pub answer-is : there ≡ true → d .answer ≡ 24

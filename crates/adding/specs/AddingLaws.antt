@@ -1,9 +1,9 @@
 -- Laws of the adding commands: one for each way out of the code.
-use mathlib.Core.Bool.{Bool, false, true}
+use mathlib.Core.Bool.{Bool, _&&_, false, true}
 use mathlib.Core.Bool.{not as notᵇ}
 use mathlib.Core.List.{List}
 use mathlib.Core.Logic.{_≢_}
-use mathlib.Core.Path.{_∙_, _≡_, ap, ap₂, refl, sym}
+use mathlib.Core.Path.{_∙_, _≡_, ap, ap₂, refl, subst, sym}
 use Prim.Native.Nat.{suc, zero, ℕ}
 use borrow.Author.Tests.{not-false, not-true}
 use Rattle.book.specs.Plain.{plainOf}
@@ -12,23 +12,25 @@ use Rattle.commands.specs.Outcome.{Called}
 use Rattle.commands.specs.declared.Outcome.{Outcome}
 use Rattle.language.specs.Entering.{Kept}
 use Rattle.language.specs.Readers.{Answers}
-use Rattle.language.specs.TakeLaws.{no-answer}
+use Rattle.language.specs.ProductionLaws.{at-end}
 use Rattle.language.specs.TokenLaws.{answer-yes}
 use Rattle.model.specs.Book.{Book, components, facilities, implementations, versions}
 use Rattle.model.specs.Commands.{Command, after}
 use Rattle.model.specs.PlainBook.{answer, next}
 use Rattle.names.specs.Stored.{tablesOf}
 use Rattle.rules.specs.Test.{passes}
-use Rattle.sets.specs.TestLaws.{clash, if-false, if-true}
+use Rattle.sets.specs.Tests.{_&_}
+use Rattle.sets.specs.TestLaws.{and-l, and-r, and-true, clash, if-false, if-true}
 use Rattle.states.specs.Carried.{Decides}
 use Rattle.states.specs.State.{Ready, stateOf}
+use Rattle.states.specs.declared.Decision.{Decision}
 use Rattle.text.specs.Bytes.{Text}
 use Rattle.text.specs.Language.{Reader, Said}
 use Rattle.text.specs.Session.{State, add, carry, decided, told}
 use Rattle.text.specs.Tables.{Tables}
-use Rattle.adding.specs.Adding.{Adds, Keeps}
+use Rattle.adding.specs.Adding.{Adds, Keeps, Unasked}
 
--- ---- the ways out of keep
+-- ---- the ways out of keep and unasked
 
 module _ (o : Outcome) (s n : List ℕ) where
   pub keeps-refused : o .answer ≢ 0 → Keeps o s n (o .answer) s n
@@ -36,6 +38,14 @@ module _ (o : Outcome) (s n : List ℕ) where
 
   pub keeps-accepted : o .answer ≡ 0 → Keeps o s n (o .answer) (o .book .sets) (o .book .numbers)
   keeps-accepted e = record { answer-is = refl; accepted = λ _. (refl, refl); refused = λ h. absurd (h e) }
+
+pub unasked-unread : (at e : ℕ) (there : Bool) → notᵇ there ≡ true → Unasked there e (record { there = false; end = at; answer = 0 })
+unasked-unread at e there h =
+    let z = not-true there h in
+    record { there-is = sym z; end-is = λ y. clash y z; answer-is = λ y. clash y z }
+
+pub unasked-no-place : (e : ℕ) (there : Bool) → notᵇ there ≡ false → Unasked there e (record { there = true; end = e; answer = 24 })
+unasked-no-place e there h = record { there-is = sym (not-false there h); end-is = λ _. refl; answer-is = λ _. refl }
 
 -- what was called and kept was called
 pub called-kept : (s n : List ℕ) (k : Command) (o : Outcome) (a : ℕ) (s′ n′ : List ℕ)
@@ -105,41 +115,57 @@ module _ (s n c v f i c′ v′ f′ i′ : List ℕ) (room : Bool) (P : Command
 
 -- ---- the ways out of the five commands
 
+-- of two tests that do not both pass, the second fails where the first passes
+second-no : (a b : Bool) → a ≡ true → notᵇ (a && b) ≡ true → b ≡ false
+unfolding _&_
+second-no a b t h = sym (and-true a b t) ∙ not-true (a && b) h
+
 module _ (s n c v f i : List ℕ) (before : Ready s n c v f i) (p : Reader Said) (t : Text) (at e : ℕ) (there : Bool) (Q : Said → Type 0)
     (read : Answers p Q t at there e) where
-  pub way-unread : (z a : ℕ) → notᵇ there ≡ true → Ready s n c v f i
-      × (Answers p (Decides (stateOf s n c v f i) (stateOf s n c v f i) a) t at false z × (false ≡ false → stateOf s n c v f i ≡ stateOf s n c v f i))
-  way-unread z a h = (before, (no-answer p Q _ t at e z there read h, λ _. refl))
+  -- what holds of the command that was read
+  answer-on : (R : Said → Type 0) → there ≡ true → ((x : Said) → Q x → R x) → Answers p R t at true e
+  answer-on R h g =
+      let a = read .yes h in
+      answer-yes p R t at e (record { value = a .value; is = a .is; took = g (a .value) (a .took); from = a .from; inside = a .inside })
 
-  module _ (h : notᵇ there ≡ false) where
-    answer-on : (R : Said → Type 0) → ((x : Said) → Q x → R x) → Answers p R t at true e
-    answer-on R g =
-        let a = read .yes (not-false there h) in
-        answer-yes p R t at e (record { value = a .value; is = a .is; took = g (a .value) (a .took); from = a .from; inside = a .inside })
+  module _ (c′ v′ f′ i′ : List ℕ) (room : Bool) (P : Command → Type 0)
+      (adds : (x : Said) → Q x → Adds (tablesOf c v f i) (tablesOf c′ v′ f′ i′) room P x) where
+    pub way-unasked : notᵇ (there && room) ≡ true → (d : Decision) → Unasked there e d → Ready s n c v f i
+        × (Answers p (Decides (stateOf s n c v f i) (stateOf s n c v f i) (d .answer)) t at (d .there) (d .end)
+        × (d .there ≡ false → stateOf s n c v f i ≡ stateOf s n c v f i))
+    way-unasked h d u = (before, (by there refl, λ _. refl))
+      where
+        by : (b : Bool) → there ≡ b → Answers p (Decides (stateOf s n c v f i) (stateOf s n c v f i) (d .answer)) t at (d .there) (d .end)
+        by true y =
+            subst (λ (m : ℕ). Answers p (Decides (stateOf s n c v f i) (stateOf s n c v f i) m) t at (d .there) (d .end)) (sym (u .answer-is y))
+            (at-end (u .there-is ∙ y) (u .end-is y)
+            (answer-on _ y (λ x q. no-place s n c v f i c′ v′ f′ i′ room P x (adds x q) (second-no there room y h))))
+        by false z = record { yes = λ y. clash (sym (u .there-is) ∙ y) z; no = λ _. read .no z }
 
-    module _ (c′ v′ f′ i′ : List ℕ) (room : Bool) (P : Command → Type 0)
-        (adds : (x : Said) → Q x → Adds (tablesOf c v f i) (tablesOf c′ v′ f′ i′) room P x) where
-      pub way-no-place : notᵇ room ≡ true → Ready s n c v f i
-          × (Answers p (Decides (stateOf s n c v f i) (stateOf s n c v f i) 24) t at true e × (true ≡ false → stateOf s n c v f i ≡ stateOf s n c v f i))
-      way-no-place r =
-          (before, (answer-on _ (λ x q. no-place s n c v f i c′ v′ f′ i′ room P x (adds x q) (not-true room r)), λ _. refl))
+    module _ (h : notᵇ (there && room) ≡ false) (a : ℕ) (s′ n′ : List ℕ) (called : (k : Command) → P k → Called s n k a s′ n′) where
+      is-there : there ≡ true
+      unfolding _&_
+      is-there = and-l there room (not-false (there && room) h)
 
-      module _ (y : notᵇ room ≡ false) (a : ℕ) (s′ n′ : List ℕ) (called : (k : Command) → P k → Called s n k a s′ n′) where
-        way-passes : passes s′ n′ ≡ true
-        way-passes =
-            let g = read .yes (not-false there h) in
-            outcome-passes s n c v f i c′ v′ f′ i′ room P (g .value) (adds (g .value) (g .took)) (not-false room y) (before .passes) a s′ n′ called
+      has-room : room ≡ true
+      unfolding _&_
+      has-room = and-r there room (not-false (there && room) h)
 
-        pub way-refused : a ≢ 0 → Ready s′ n′ c v f i
-            × (Answers p (Decides (stateOf s n c v f i) (stateOf s′ n′ c v f i) a) t at true e × (true ≡ false → stateOf s′ n′ c v f i ≡ stateOf s n c v f i))
-        way-refused d = (
-          record { passes = way-passes; comps = before .comps; vers = before .vers; facs = before .facs; impls = before .impls },
-          (answer-on _ (λ x q. not-accepted s n c v f i c′ v′ f′ i′ room P x (adds x q) (not-false room y) (before .passes) a s′ n′ called d), λ z. clash refl z),
-        )
+      way-passes : passes s′ n′ ≡ true
+      way-passes =
+          let g = read .yes is-there in
+          outcome-passes s n c v f i c′ v′ f′ i′ room P (g .value) (adds (g .value) (g .took)) has-room (before .passes) a s′ n′ called
 
-        pub way-accepted : Kept components c′ → Kept versions v′ → Kept facilities f′ → Kept implementations i′ → a ≡ 0 → Ready s′ n′ c′ v′ f′ i′
-            × (Answers p (Decides (stateOf s n c v f i) (stateOf s′ n′ c′ v′ f′ i′) a) t at true e × (true ≡ false → stateOf s′ n′ c′ v′ f′ i′ ≡ stateOf s n c v f i))
-        way-accepted kc kv kf ki d = (
-          record { passes = way-passes; comps = kc; vers = kv; facs = kf; impls = ki },
-          (answer-on _ (λ x q. accepted s n c v f i c′ v′ f′ i′ room P x (adds x q) (not-false room y) (before .passes) a s′ n′ called d), λ z. clash refl z),
-        )
+      pub way-refused : a ≢ 0 → Ready s′ n′ c v f i
+          × (Answers p (Decides (stateOf s n c v f i) (stateOf s′ n′ c v f i) a) t at true e × (true ≡ false → stateOf s′ n′ c v f i ≡ stateOf s n c v f i))
+      way-refused d = (
+        record { passes = way-passes; comps = before .comps; vers = before .vers; facs = before .facs; impls = before .impls },
+        (answer-on _ is-there (λ x q. not-accepted s n c v f i c′ v′ f′ i′ room P x (adds x q) has-room (before .passes) a s′ n′ called d), λ z. clash refl z),
+      )
+
+      pub way-accepted : Kept components c′ → Kept versions v′ → Kept facilities f′ → Kept implementations i′ → a ≡ 0 → Ready s′ n′ c′ v′ f′ i′
+          × (Answers p (Decides (stateOf s n c v f i) (stateOf s′ n′ c′ v′ f′ i′) a) t at true e × (true ≡ false → stateOf s′ n′ c′ v′ f′ i′ ≡ stateOf s n c v f i))
+      way-accepted kc kv kf ki d = (
+        record { passes = way-passes; comps = kc; vers = kv; facs = kf; impls = ki },
+        (answer-on _ is-there (λ x q. accepted s n c v f i c′ v′ f′ i′ room P x (adds x q) has-room (before .passes) a s′ n′ called d), λ z. clash refl z),
+      )

@@ -12,7 +12,7 @@ ghost use Rattle.rules.specs.Test as test;
 ghost use Rattle.states.specs.Carried.{Decides};
 ghost use Rattle.states.specs.State.{Ready, stateOf};
 ghost use Rattle.text.specs.Language.{add-mod, add-modvar, add-spec, add-sys, add-sysvar};
-ghost use Rattle.adding.specs.Adding.{Keeps};
+ghost use Rattle.adding.specs.Adding.{Keeps, Unasked};
 use book::Book;
 use commands::Outcome;
 use language::ModRequest;
@@ -22,7 +22,7 @@ use language::SysRequest;
 use language::SysvarRequest;
 use states::Decision;
 
-// "is there a place for each new name? no: 24."
+// "Adding commands: is there a place for each new name? no: 24."
 const NO_PLACE: usize = 24;
 
 // The answer of a command. The Book is kept in the arrays if it was accepted; else they stay as they are.
@@ -135,6 +135,24 @@ fn answer_sysvar(sets: &mut [u64; 576], numbers: &mut [u8; 8768], r: SysvarReque
 
 // ---- the commands
 
+// Where a text question has its no: the command is not of the language, and only if it is there is no place for one of its names.
+fn unasked(there: bool, at: usize, end: usize) -> Decision
+    ensures { λ r. ⌜ Unasked there end r ⌝ }
+{
+    if !there {
+        return Decision {
+            there: false,
+            end: at,
+            answer: 0,
+        };
+    }
+    Decision {
+        there: true,
+        end: end,
+        answer: NO_PLACE,
+    }
+}
+
 // "spec", from behind that word.
 pub fn add_spec(
     sets: &mut [u64; 576],
@@ -156,20 +174,9 @@ pub fn add_spec(
     let mut v = *vers;
     let mut f = *facs;
     let r = language::read_spec(&mut c, &mut v, &mut f, text, at);
-    if !r.there {
-        return Decision {
-            there: false,
-            end: at,
-            answer: 0,
-        };
-    }
     let end = r.end;
-    if !r.room {
-        return Decision {
-            there: true,
-            end: end,
-            answer: NO_PLACE,
-        };
+    if !(r.there & r.room) {
+        return unasked(r.there, at, end);
     }
     let answer = answer_spec(sets, numbers, r);
     if answer == 0 {
@@ -205,20 +212,9 @@ pub fn add_mod(
     let mut v = *vers;
     let mut i = *impls;
     let r = language::read_mod(&mut c, &mut v, &mut i, text, at);
-    if !r.there {
-        return Decision {
-            there: false,
-            end: at,
-            answer: 0,
-        };
-    }
     let end = r.end;
-    if !r.room {
-        return Decision {
-            there: true,
-            end: end,
-            answer: NO_PLACE,
-        };
+    if !(r.there & r.room) {
+        return unasked(r.there, at, end);
     }
     let answer = answer_mod(sets, numbers, r);
     if answer == 0 {
@@ -234,13 +230,13 @@ pub fn add_mod(
 }
 
 // "sys", from behind that word.
-pub fn add_sys<'a>(
+pub fn add_sys(
     sets: &mut [u64; 576],
     numbers: &mut [u8; 8768],
     comps: &mut [u8; 1056],
     vers: &mut [u8; 2112],
-    facs: &'a [u8; 2112],
-    impls: &'a [u8; 8448],
+    facs: &[u8; 2112],
+    impls: &[u8; 8448],
     text: &[u8],
     at: usize,
 ) -> Decision
@@ -253,20 +249,9 @@ pub fn add_sys<'a>(
     let mut c = *comps;
     let mut v = *vers;
     let r = language::read_sys(&mut c, &mut v, text, at);
-    if !r.there {
-        return Decision {
-            there: false,
-            end: at,
-            answer: 0,
-        };
-    }
     let end = r.end;
-    if !r.room {
-        return Decision {
-            there: true,
-            end: end,
-            answer: NO_PLACE,
-        };
+    if !(r.there & r.room) {
+        return unasked(r.there, at, end);
     }
     let answer = answer_sys(sets, numbers, r);
     if answer == 0 {
@@ -302,20 +287,9 @@ pub fn add_modvar(
     let mut f = *facs;
     let mut i = *impls;
     let r = language::read_modvar(&mut c, &mut v, &mut f, &mut i, text, at);
-    if !r.there {
-        return Decision {
-            there: false,
-            end: at,
-            answer: 0,
-        };
-    }
     let end = r.end;
-    if !r.room {
-        return Decision {
-            there: true,
-            end: end,
-            answer: NO_PLACE,
-        };
+    if !(r.there & r.room) {
+        return unasked(r.there, at, end);
     }
     let answer = answer_modvar(sets, numbers, r);
     if answer == 0 {
@@ -332,13 +306,13 @@ pub fn add_modvar(
 }
 
 // "sysvar", from behind that word.
-pub fn add_sysvar<'a>(
+pub fn add_sysvar(
     sets: &mut [u64; 576],
     numbers: &mut [u8; 8768],
     comps: &mut [u8; 1056],
     vers: &mut [u8; 2112],
-    facs: &'a [u8; 2112],
-    impls: &'a [u8; 8448],
+    facs: &[u8; 2112],
+    impls: &[u8; 8448],
     text: &[u8],
     at: usize,
 ) -> Decision
@@ -351,20 +325,9 @@ pub fn add_sysvar<'a>(
     let mut c = *comps;
     let mut v = *vers;
     let r = language::read_sysvar(&mut c, &mut v, text, at);
-    if !r.there {
-        return Decision {
-            there: false,
-            end: at,
-            answer: 0,
-        };
-    }
     let end = r.end;
-    if !r.room {
-        return Decision {
-            there: true,
-            end: end,
-            answer: NO_PLACE,
-        };
+    if !(r.there & r.room) {
+        return unasked(r.there, at, end);
     }
     let answer = answer_sysvar(sets, numbers, r);
     if answer == 0 {

@@ -52,6 +52,7 @@ module _ (s n : List ℕ) (k : Command) (a : ℕ) (s′ n′ : List ℕ) (h : Ca
   unfolding answered
   called-answer p = h .answer-is ∙ if-true _ _ _ p
 
+-- of the same command
 pub called-as : (s n : List ℕ) (j k : Command) (a : ℕ) (s′ n′ : List ℕ) → j ≡ k → Called s n j a s′ n′ → Called s n k a s′ n′
 called-as s n j k a s′ n′ e h = subst (λ (x : Command). Called s n x a s′ n′) e h
 
@@ -91,13 +92,16 @@ module _ (s n c v f i : List ℕ) (ready : Ready s n c v f i) (k : Command) (a :
     impls = ready .impls;
   }
 
+  abbrev holding : Book → State
+  holding b = record { book = b; tables = tablesOf c v f i }
+
   -- a command that comes to k
   pub carried-out : (x : Said) → carry (stateOf s n c v f i) x ≡ told (plainOf s n) (tablesOf c v f i) k
       → Decides (stateOf s n c v f i) (stateOf s′ n′ c v f i) a x
   unfolding stateOf
   carried-out x e = record {
     is = e ∙ told-next (plainOf s n) (tablesOf c v f i) k
-        ∙ ap (λ (m : ℕ). decided m (record { book = next (plainOf s n) k; tables = tablesOf c v f i })) (sym (called-answer s n k a s′ n′ h (ready .passes)))
-        ∙ decided-same a _ _ (λ z. ap (λ (b : Book). record { book = b; tables = tablesOf c v f i }) (sym (h .accepted z .0)));
-    refused = λ ne. ap₂ (λ (x y : List ℕ). record { book = plainOf x y; tables = tablesOf c v f i }) (h .refused ne .0) (h .refused ne .1);
+        ∙ ap (λ (m : ℕ). decided m (holding (next (plainOf s n) k))) (sym (called-answer s n k a s′ n′ h (ready .passes)))
+        ∙ decided-same a _ _ (λ z. ap holding (sym (h .accepted z .0)));
+    refused = λ ne. ap₂ (λ (x y : List ℕ). holding (plainOf x y)) (h .refused ne .0) (h .refused ne .1);
   }

@@ -24,8 +24,9 @@ componentCommand component.Spec c = DEL-SPEC c
 componentCommand component.Module c = DEL-MOD c
 componentCommand component.System c = DEL-SYS c
 
--- "a name that stands in no table has no number: the component or version then doesn't exist". The question that has its no then:
--- "is the component specified? no: 4", "is it a module? no: 6", "is it a system? no: 7"
+-- "a name that stands in no table has no number: the component or version then doesn't exist" (document 01, "Text and session"). The
+-- question that has its no then ("The questions, in order"): "is the component specified? no: 4", "is it a module? no: 6", "is it a
+-- system? no: 7"
 unfoldable pub componentAnswer : Component → ℕ
 componentAnswer component.Spec = 4
 componentAnswer component.Module = 6
@@ -33,10 +34,12 @@ componentAnswer component.System = 7
 
 -- ---- delmodvar, delsysvar
 
+-- the command that is read
 unfoldable pub versionRemoved : Version → Name → Name → Said
 versionRemoved version.Module c v = DELMODVAR c v
 versionRemoved version.System c v = DELSYSVAR c v
 
+-- the command with the numbers of the pair
 unfoldable pub versionCommand : Version → ℕ → ℕ → Command
 versionCommand version.Module c v = DEL-MODVAR c v
 versionCommand version.System c v = DEL-SYSVAR c v

@@ -8,23 +8,22 @@ use Prim.Native.Nat.{_<_, ℕ}
 use native.Mathlib.Omega.{arith}
 use borrow.Author.Tests.{not-false}
 use Rattle.book.specs.Plain.{plainOf}
-use Rattle.commands.specs.Outcome.{Called, answered}
-use Rattle.language.specs.Readers.{Answers, Span}
+use Rattle.commands.specs.Outcome.{Called}
+use Rattle.language.specs.Readers.{Answers}
 use Rattle.language.specs.TokenLaws.{answer-yes}
 use Rattle.language.specs.Words.{OneSaid, PairSaid}
 use Rattle.language.specs.declared.Parts.{Parts}
 use Rattle.model.specs.Book.{Book, components, versions}
 use Rattle.names.specs.EnterLaws.{found-at, found-nothing, table-length}
-use Rattle.names.specs.Stored.{tableOf, tablesOf}
-use Rattle.names.specs.Stored as stored
+use Rattle.names.specs.Stored.{answered, tableOf, tablesOf}
 use Rattle.names.specs.declared.Found.{Found}
 use Rattle.names.specs.declared.Found.the-variants.{At, Nothing}
 use Rattle.sets.specs.Tests.{if_then_else_}
 use Rattle.states.specs.Carried.{Decides}
 use Rattle.states.specs.State.{Ready, stateOf}
-use Rattle.text.specs.Bytes.{Text, short}
+use Rattle.text.specs.Bytes.{Text}
 use Rattle.text.specs.Language.{Name, Reader, Said, ofOne, ofPair}
-use Rattle.text.specs.Session.{State, carry, forComponent, forPair, ofComponent, ofVersion, refused, told}
+use Rattle.text.specs.Session.{Result, State, carry, forComponent, forPair, ofComponent, ofVersion, refused, told}
 use Rattle.text.specs.Tables.{place}
 use Rattle.text_theorems.specs.Places.{place-name}
 use Rattle.words.specs.Reading.{part}
@@ -38,6 +37,7 @@ use Rattle.removing.specs.KeepLaws.{carried-out, unchanged}
 
 -- ---- a command that was read
 
+-- what holds of the command that was read
 said-of : (p : Reader Said) (Q R : Said → Type 0) (t : Text) (at e : ℕ) (there : Bool) → Answers p Q t at there e → notᵇ there ≡ false
     → ((x : Said) → Q x → R x) → Answers p R t at true e
 said-of p Q R t at e there r n f =
@@ -46,6 +46,7 @@ said-of p Q R t at e there r n f =
 
 -- ---- delspec, delmod, delsys
 
+-- the three as one
 component-told : (kind : Component) (x : State) (w : Name)
     → carry x (removed kind w) ≡ ofComponent x (componentAnswer kind) w (λ c. told (x .book) (x .tables) (componentCommand kind c))
 unfolding carry removed componentAnswer componentCommand
@@ -53,6 +54,7 @@ component-told component.Spec x w = refl
 component-told component.Module x w = refl
 component-told component.System x w = refl
 
+-- a no has a number
 component-no : (kind : Component) → componentAnswer kind ≡ 0 → ⊥
 unfolding componentAnswer
 component-no component.Spec e = omega (arith, e)
@@ -61,24 +63,22 @@ component-no component.System e = omega (arith, e)
 
 module _ (kind : Component) (t : Text) (at a e : ℕ) (there : Bool)
     (r : (g : Name → Said) → Answers (ofOne g) (OneSaid g t a e) t at there e) (y : notᵇ there ≡ false) where
-  one-took : OneSaid (removed kind) t a e (r (removed kind) .yes (not-false there y) .value)
+  pub one-took : OneSaid (removed kind) t a e (r (removed kind) .yes (not-false there y) .value)
   one-took = r (removed kind) .yes (not-false there y) .took
-
-  pub one-span : Span t a e
-  one-span = one-took .span
-
-  pub one-short : short (part t a e) ≡ true
-  one-short = one-took .fits
 
   one-read : (R : Said → Type 0) → R (removed kind (part t a e)) → Answers (ofOne (removed kind)) R t at true e
   one-read R x = said-of _ _ R t at e there (r (removed kind)) y (λ k q. subst R (sym (q .is)) x)
 
-  module _ (s n c v f i : List ℕ) (o : Found) (q : stored.answered o ≡ place (tableOf components c) (part t a e)) where
+  module _ (s n c v f i : List ℕ) (o : Found) (q : answered o ≡ place (tableOf components c) (part t a e)) where
+    abbrev taken : ℕ → Result
+    taken j = told (plainOf s n) (tablesOf c v f i) (componentCommand kind j)
+
+    -- the name's number, or that it has none
     component-as : (p : Option ℕ) → place (tableOf components c) (part t a e) ≡ p → carry (stateOf s n c v f i) (removed kind (part t a e))
-        ≡ forComponent (componentAnswer kind) p (λ j. told (plainOf s n) (tablesOf c v f i) (componentCommand kind j))
+        ≡ forComponent (componentAnswer kind) p taken
     unfolding ofComponent stateOf tablesOf
     component-as p z = component-told kind (stateOf s n c v f i) (part t a e)
-        ∙ ap (λ (p : Option ℕ). forComponent (componentAnswer kind) p (λ j. told (plainOf s n) (tablesOf c v f i) (componentCommand kind j))) z
+        ∙ ap (λ (p : Option ℕ). forComponent (componentAnswer kind) p taken) z
 
     pub component-unknown : o ≡ Nothing → (m : ℕ) → m ≡ componentAnswer kind
         → Answers (ofOne (removed kind)) (Decides (stateOf s n c v f i) (stateOf s n c v f i) m) t at true e
@@ -94,6 +94,7 @@ module _ (kind : Component) (t : Text) (at a e : ℕ) (there : Bool)
 
 -- ---- delmodvar, delsysvar
 
+-- the two as one
 version-told : (kind : Version) (x : State) (w u : Name) → carry x (versionRemoved kind w u)
     ≡ ofVersion x (pairAnswer kind) (isOfKind kind (x .book)) w u (λ c v. told (x .book) (x .tables) (versionCommand kind c v))
 unfolding carry versionRemoved pairAnswer versionCommand isOfKind
@@ -119,7 +120,7 @@ refused-if true m j = refl
 refused-if false m j = refl
 
 -- a place of a table
-pub found-small : (n : ℕ) (bytes : List ℕ) (w : Name) (o : Found) (k : ℕ) → stored.answered o ≡ place (tableOf n bytes) w → o ≡ At k → k < n
+pub found-small : (n : ℕ) (bytes : List ℕ) (w : Name) (o : Found) (k : ℕ) → answered o ≡ place (tableOf n bytes) w → o ≡ At k → k < n
 found-small n bytes w o k q e =
     let p = place-name (tableOf n bytes) w k (found-at o k _ q e) .1 in let l = table-length n bytes in omega arith
 
@@ -137,13 +138,17 @@ module _ (kind : Version) (t : Text) (at : ℕ) (r : Parts) (g : (h : Name → N
   pair-read : (R : Said → Type 0) → R (versionRemoved kind component-name version-name) → Answers (ofPair (versionRemoved kind)) R t at true (r .to)
   pair-read R x = said-of _ _ R t at (r .to) (r .there) (g (versionRemoved kind)) y (λ k q. subst R (sym (q .is)) x)
 
-  module _ (s n c v f i : List ℕ) (o : Found) (q : stored.answered o ≡ place (tableOf components c) component-name) where
+  module _ (s n c v f i : List ℕ) (o : Found) (q : answered o ≡ place (tableOf components c) component-name) where
+    abbrev version-taken : ℕ → ℕ → Result
+    version-taken j l = told (plainOf s n) (tablesOf c v f i) (versionCommand kind j l)
+
+    -- the names' numbers, or that one has none
     version-as : (p u : Option ℕ) → place (tableOf components c) component-name ≡ p → place (tableOf versions v) version-name ≡ u
         → carry (stateOf s n c v f i) (versionRemoved kind component-name version-name)
-        ≡ forPair (pairAnswer kind) (isOfKind kind (plainOf s n)) p u (λ j l. told (plainOf s n) (tablesOf c v f i) (versionCommand kind j l))
+        ≡ forPair (pairAnswer kind) (isOfKind kind (plainOf s n)) p u version-taken
     unfolding ofVersion stateOf tablesOf
     version-as p u z x = version-told kind (stateOf s n c v f i) component-name version-name
-        ∙ ap₂ (λ (p u : Option ℕ). forPair (pairAnswer kind) (isOfKind kind (plainOf s n)) p u (λ j l. told (plainOf s n) (tablesOf c v f i) (versionCommand kind j l))) z x
+        ∙ ap₂ (λ (p u : Option ℕ). forPair (pairAnswer kind) (isOfKind kind (plainOf s n)) p u version-taken) z x
 
     pub pair-unknown : o ≡ Nothing → (m : ℕ) → m ≡ pairAnswer kind
         → Answers (ofPair (versionRemoved kind)) (Decides (stateOf s n c v f i) (stateOf s n c v f i) m) t at true (r .to)
@@ -151,7 +156,7 @@ module _ (kind : Version) (t : Text) (at : ℕ) (r : Parts) (g : (h : Name → N
     pair-unknown z m d = pair-read _
         (unchanged _ m _ (λ x. pair-no kind (sym d ∙ x)) (version-as none _ (found-nothing o _ q z) refl ∙ ap refused (sym d)))
 
-    module _ (j : ℕ) (z : o ≡ At j) (o′ : Found) (q′ : stored.answered o′ ≡ place (tableOf versions v) version-name) where
+    module _ (j : ℕ) (z : o ≡ At j) (o′ : Found) (q′ : answered o′ ≡ place (tableOf versions v) version-name) where
       pub version-unknown : o′ ≡ Nothing → (m : ℕ) → m ≡ versionAnswer kind (plainOf s n) j
           → Answers (ofPair (versionRemoved kind)) (Decides (stateOf s n c v f i) (stateOf s n c v f i) m) t at true (r .to)
       unfolding forPair versionAnswer

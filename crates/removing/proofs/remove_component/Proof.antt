@@ -2,19 +2,42 @@ use Rattle.language.specs.TakeLaws.{no-answer}
 use Rattle.sets.specs.TestLaws.{clash}
 use mathlib.Core.Path.{refl}
 use Rattle.removing.specs.KeepLaws.{ready-on}
-use Rattle.removing.specs.RemovedLaws.{component-known, component-unknown, one-short, one-span}
+use Rattle.removing.specs.RemovedLaws.{component-known, component-unknown, one-took}
 use borrow.Author.Needs.{needs}
 use Rattle.removing.proofs.remove_component.Statement.{statement}
 use Rattle.removing.proofs.remove_component.Tie as tie
 
 place-of-requires : tie.Need-place-of-requires
-place-of-requires c κs = (c .before .before .before .before .before .pre .0 .comps .long, (one-span (c .before .before .before .before .before .args .kind) _ _ _ _ _ (c .before .before .before .read-one .ensures) (c .before .if1 .left), one-short (c .before .before .before .before .before .args .kind) _ _ _ _ _ (c .before .before .before .read-one .ensures) (c .before .if1 .left)))
+place-of-requires c κs =
+    let read = c .before .before .before in
+    let p = one-took (read .before .before .args .kind) _ _ _ _ _ (read .read-one .ensures) (c .before .if1 .left) in
+    (read .before .before .pre .0 .comps .long, (p .span, p .fits))
 
 returns-2 : tie.Need-returns-2
-returns-2 c = (c .before .before .before .before .before .before .before .before .before .pre .0, (component-unknown (c .before .before .before .before .before .before .before .before .before .args .kind) _ _ _ _ _ (c .before .before .before .before .before .before .before .read-one .ensures) (c .before .before .before .before .before .if1 .left) _ _ _ _ _ _ _ (c .before .before .before .place-of .ensures) (c .before .enum-told .given .1) _ (c .component-answer .ensures), λ _. refl))
+returns-2 c =
+    let read = c .before .before .before .before .before .before .before in
+    let ready = read .before .before .pre .0 in (
+      ready,
+      (
+        component-unknown (read .before .before .args .kind) _ _ _ _ _ (read .read-one .ensures) (c .before .before .before .before .before .if1 .left) _ _ _ _ _ _ _ (c .before .before .before .place-of .ensures)
+            (c .before .enum-told .given .1) _ (c .component-answer .ensures),
+        λ _. refl,
+      ),
+    )
 
 returns-3 : tie.Need-returns-3
-returns-3 c = (ready-on _ _ _ _ _ _ (c .before .before .before .before .before .before .before .before .before .before .before .before .pre .0) _ _ _ _ (c .take-out .ensures), (component-known (c .before .before .before .before .before .before .before .before .before .before .before .before .args .kind) _ _ _ _ _ (c .before .before .before .before .before .before .before .before .before .before .read-one .ensures) (c .before .before .before .before .before .before .before .before .if1 .left) _ _ _ _ _ _ _ (c .before .before .before .before .before .before .place-of .ensures) (c .before .before .before .before .before .before .before .before .before .before .before .before .pre .0) _ (c .before .before .before .before .c .given .1) _ _ _ (c .take-out .ensures), λ q. clash refl q))
+returns-3 c =
+    let found = c .before .before .before .before in
+    let read = found .before .before .before .before .before .before in
+    let ready = read .before .before .pre .0 in
+    let done = c .take-out .ensures in (
+      ready-on _ _ _ _ _ _ ready _ _ _ _ done,
+      (
+        component-known (read .before .before .args .kind) _ _ _ _ _ (read .read-one .ensures) (found .before .before .before .before .if1 .left)
+            _ _ _ _ _ _ _ (found .before .before .place-of .ensures) ready _ (found .c .given .1) _ _ _ done,
+        λ q. clash refl q,
+      ),
+    )
 
 pub remove-component-spec : {M : Type 1} → statement M
 remove-component-spec = tie.close

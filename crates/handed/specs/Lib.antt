@@ -1,0 +1,4 @@
+pub mod Answered
+pub mod Named
+pub mod NamedLaws
+pub mod AnsweredLaws

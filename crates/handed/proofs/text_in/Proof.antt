@@ -1,58 +1,23 @@
 use borrow.Author.Needs.{needs}
+use Rattle.handed.specs.AnsweredLaws.{no-book, no-names, too-short, writes}
 use Rattle.handed.proofs.text_in.Statement.{statement}
 use Rattle.handed.proofs.text_in.Tie as tie
-use Rattle.handed.proofs.text_in.Reads as reads
-use Rattle.handed.proofs.text_in.Lts as lts
-use Rattle.handed.proofs.names_hold.Reads as names-hold-reads
-use Rattle.listing.proofs.text.Reads as text-reads
-use Rattle.rules.proofs.passes.Reads as passes-reads
 
--- src/lib.rt:268:9
-passes-requires : tie.Need-passes-requires
-passes-requires c κs = search needs
-
--- src/lib.rt:269:9
 returns : tie.Need-returns
-returns c = ?
+returns c = no-book _ _ _ _ _ _ _ (c .before .passes .ensures) (c .if1 .taken)
 
--- src/lib.rt:271:9
-names-hold-requires : tie.Need-names-hold-requires
-names-hold-requires c κs = search needs
-
--- src/lib.rt:272:9
 returns-2 : tie.Need-returns-2
-returns-2 c = ?
+returns-2 c = no-names _ _ _ _ _ _ _ (c .before .before .before .passes .ensures) (c .before .before .if1 .left) (c .before .names-hold .ensures) (c .if2 .taken)
 
--- src/lib.rt:274:9
-text-requires : tie.Need-text-requires
-text-requires c κs = search needs
-
--- src/lib.rt:276:9
-same-length : tie.Need-same-length
-same-length c = search needs
-
--- src/lib.rt:276:9
 returns-3 : tie.Need-returns-3
-returns-3 c = ?
+returns-3 c = too-short _ _ _ _ _ _ _ (c .before .before .before .before .before .before .before .before .before .passes .ensures) (c .before .before .before .before .before .before .before .before .if1 .left) (c .before .before .before .before .before .before .before .names-hold .ensures) (c .before .before .before .before .before .before .if2 .left)
+    (c .before .before .before .before .text .ensures .0) (c .before .before .before .before .text .ensures .1) (c .if3 .taken)
 
--- src/lib.rt:257:1
-same-length-2 : tie.Need-same-length-2
-same-length-2 c = search needs
-
--- src/lib.rt:257:1
 returns-4 : tie.Need-returns-4
-returns-4 c = ?
+returns-4 c = writes _ _ _ _ _ _ _ (c .before .before .before .before .before .before .before .before .before .passes .ensures) (c .before .before .before .before .before .before .before .before .if1 .left) (c .before .before .before .before .before .before .before .names-hold .ensures) (c .before .before .before .before .before .before .if2 .left)
+    (c .before .before .before .before .text .ensures .0) (c .before .before .before .before .text .ensures .1) (c .if3 .left)
 
 pub text-in-spec : {M : Type 1} → statement M
-text-in-spec =
-    tie.close
-    (tie.spec
-    passes-requires
-    returns
-    names-hold-requires
-    returns-2
-    text-requires
-    same-length
-    returns-3
-    same-length-2
-    returns-4)
+text-in-spec = tie.close
+    (tie.spec (λ c κs. search needs) returns (λ c κs. search needs) returns-2 (λ c κs. search needs) (λ c. search needs) returns-3
+    (λ c. search needs) returns-4)

@@ -2,7 +2,7 @@
 use mathlib.Core.Bool.{Bool, false, not, true}
 use mathlib.Core.List.{List}
 use mathlib.Core.Logic.{inl, inr}
-use mathlib.Core.Path.{_∙_, _≡_, ap, refl, sym}
+use mathlib.Core.Path.{_∙_, _≡_, ap, sym}
 use Prim.Native.Nat.{ℕ}
 use native.Mathlib.Omega.{arith}
 use borrow.Author.Tests.{not-false, not-true}
@@ -12,16 +12,15 @@ use Rattle.listing.specs.Written.{startingWith, wrote}
 use Rattle.listing.specs.declared.Wrote.{Wrote}
 use Rattle.names.specs.Stored.{tablesOf}
 use Rattle.rules.specs.Test as test
-use Rattle.sets.specs.TestLaws.{==-in, ==-not, and-false, and-in, and-no, bool?, clash, if-false, if-true}
-use Rattle.sets.specs.Tests.{_==_, _≤?_}
-use Rattle.text.specs.Bytes.{Text as Bytes}
+use Rattle.sets.specs.TestLaws.{==-in, ==-not, and-false, and-in, and-no, bool?, if-false, if-true}
+use Rattle.sets.specs.Tests.{_≤?_}
+use Rattle.text.specs.Bytes.{Text}
 use Rattle.text.specs.Handed.{namesHold}
 use Rattle.text.specs.Written.{written}
 use Rattle.handed.specs.Answered.{TextCall, handed, passesNamed, sliceWith, textAnswer, textLen}
-use Rattle.handed.specs.declared.Text.{Text}
 
 module _ (s n c v f i old : List ℕ) where
-  abbrev the : Bytes
+  abbrev the : Text
   the = written (plainOf s n) (tablesOf c v f i)
 
   -- refused, whatever the number is

@@ -2,13 +2,13 @@
 use mathlib.Core.Bool.{Bool, _&&_, false, not, true}
 use mathlib.Core.List.{List, [], _∷_}
 use mathlib.Core.Logic.{_⊎_, _≢_, inl, inr}
-use mathlib.Core.Option.{Option, some}
+use mathlib.Core.Option.{Option}
 use mathlib.Core.Path.{_∙_, _≡_, ap, ap₂, refl, subst, sym}
-use Prim.Native.Nat.{_*_, _<_, _≤_, ℕ}
+use Prim.Native.Nat.{_<_, _≤_, ℕ}
 use native.Mathlib.Omega.{arith}
 use borrow.Author.Tests.{not-false, not-true}
 use lib.ListN.{List·getD-eq-default, length}
-use Rattle.book.specs.Plain.{modulesOf, plainOf, specsOf}
+use Rattle.book.specs.Plain.{modulesOf, specsOf}
 use Rattle.book.specs.ReadLaws.{hasVersion-plain, implementation-plain, isModule-plain}
 use Rattle.model.specs.Book.{hasVersion, implementation, isModule, provides, requires, specified}
 use Rattle.model.specs.Lists.{nonEmpty}
@@ -28,7 +28,7 @@ use Rattle.text.specs.Tables.{Table, nameAt}
 use Rattle.text_theorems.specs.Handed.{once-twice}
 use Rattle.text_theorems.specs.Places.{none-twice}
 use Rattle.text_theorems.specs.TextLaws.{same-out, same-refl}
-use Rattle.theorems.specs.MapLaws.{isSome-no, isSome-out, optionMap-some}
+use Rattle.theorems.specs.MapLaws.{isSome-out, optionMap-some}
 use Rattle.handed.specs.Answered.{handed}
 use Rattle.handed.specs.Named.{apartFrom, componentIf, implementationNamed, namedIf, newAt, versionIf}
 

@@ -2,7 +2,7 @@
 // valid name for each number in the book, no name twice in a table?" The answers are specs/Answered.antt.
 ghost use mathlib.Core.Path.{_≡_};
 ghost use mathlib.Core.Bool.{true};
-ghost use Prim.Native.Nat.{_*_, _<_, _≤_};
+ghost use Prim.Native.Nat.{_*_, _<_};
 ghost use lib.ListN.{length};
 ghost use Rattle.sets.specs.Sets.{bit};
 ghost use Rattle.sets.specs.Tests.{all};
@@ -21,7 +21,10 @@ fn apart_from(names: &[u8], places: usize, i: usize, j: usize) -> bool
     requires { ⌜ length (now names) ≡ places * 33 ⌝ }
     ensures { λ r. ⌜ r ≡ apartFrom (tableOf places (now (names .entry))) i j ⌝ }
 {
-    !seqs::same(listing::name(names, places, i), listing::name(names, places, j))
+    !seqs::same(
+        listing::name(names, places, i),
+        listing::name(names, places, j),
+    )
 }
 
 // The name of place i stands at no place below it.

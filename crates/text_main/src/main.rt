@@ -16,13 +16,20 @@ const BEFORE: u8 = 46;
 
 // ---- lines
 
+fn one_if_untouched(byte: u8) -> usize
+    ensures { λ r. ⌜ r ≤ 1 ⌝ }
+{
+    if byte == BEFORE {
+        return 1;
+    }
+    0
+}
+
 fn untouched_from(out: &[u8], start: usize) -> usize {
     let mut n = 0;
     let mut i = start;
     while i < out.len() {
-        if out[i] == BEFORE {
-            n += 1;
-        }
+        n += one_if_untouched(out[i]);
         i += 1;
     }
     n
@@ -34,7 +41,7 @@ fn show_slice(out: &[u8], len: usize) {
         io::write_all(1, b"longer than the slice\n");
         return;
     }
-    io::write_all(1, &out[..len]);
+    io::write_all(1, words::word(out, 0, len));
     io::write_all(1, b"untouched behind it: ");
     io::print_decimal(1, untouched_from(out, len) as u64);
     io::write_all(1, b"\n");
@@ -211,13 +218,18 @@ fn figure_names() -> Names {
 
 // ---- systems that are held back
 
-// a uses z, m uses a, b and z use base; c may use z too, but its composition does not hold it.
-fn held_back() -> Book {
+// Six components, each with version 0; all provide facility 0.
+fn six_specs() -> Book {
     let mut b = book::fresh();
     for c in 0..6 {
         b = spec(b, c, 1, 0, 0);
     }
-    let b = system(b, 0, 1);
+    b
+}
+
+// a uses z, m uses a, b and z use base; c may use z too, but its composition does not hold it.
+fn held_back() -> Book {
+    let b = system(six_specs(), 0, 1);
     let b = system(b, 1, 3);
     let b = system(b, 2, 0);
     let b = system(b, 4, 3);
@@ -241,13 +253,19 @@ fn next_ordered(b: Book, c: usize) -> Book {
     spec(b, c, sets::with(0, c), 1, 0)
 }
 
-// Component c below 7 provides facility c, and 7 is a system of them all. Component 2 has all seven versions.
-fn ordered() -> Book {
+// The components below 7 but for 2.
+fn six_ordered() -> Book {
     let mut b = book::fresh();
     for c in 0..7 {
         b = next_ordered(b, c);
     }
+    b
+}
+
+// Component 2 has all seven versions, and 7 is a system of the others.
+fn ordered() -> Book {
     let versions = [0, 1, 2, 3, 4, 5, 6];
+    let b = six_ordered();
     let b = taken(commands::add_spec(b, 2, 4, &versions, &[123, 0, 0, 0, 0, 0, 0], 1));
     let b = spec(b, 7, 127, 1, 0);
     let chosen = [1, 1, 0, 1, 1, 1, 1];

@@ -1,0 +1,5 @@
+pub mod Answered
+pub mod Named
+pub mod NamedLaws
+pub mod AnsweredLaws
+pub mod Demand

@@ -4,6 +4,7 @@ use mathlib.Core.List.{List, [], _++_}
 use mathlib.Core.Logic.{inl, inr}
 use mathlib.Core.Path.{_∙_, _≡_, ap, refl, subst, sym}
 use Prim.Native.Nat.{_+_, _-_, _<_, _≤_, suc, ℕ}
+use native.Mathlib.Nat.{le-refl}
 use native.Mathlib.Omega.{arith}
 use borrow.Author.Tests.{not-false, not-true}
 use lib.ListN.{drop, length, length-drop}
@@ -14,10 +15,10 @@ use Rattle.listing.specs.RoomLaws.{puts-none}
 use Rattle.listing.specs.declared.Room.{Room}
 use Rattle.sets.specs.TestLaws.{<?-no, <?-out, bool?, clash}
 use Rattle.sets.specs.Tests.{_<?_}
-use Rattle.states.specs.Carried.{Carried, Decides}
+use Rattle.states.specs.Carried.{Carried, Decides, Unread}
 use Rattle.states.specs.CarriedLaws.{decides-carried}
 use Rattle.text.specs.Bytes.{Text}
-use Rattle.text.specs.Language.{Read, Reader, Said, command, over, readAs, said, wrong}
+use Rattle.text.specs.Language.{Read, Reader, Said, command, give, over, readAs, said, wrong}
 use Rattle.text.specs.Session.{State, afterwards, carry, decimal, lines, onRead, row, sessionFrom}
 use Rattle.text_theorems.specs.Bounds.{session-step}
 use Rattle.text_theorems.specs.Left.{left-length}
@@ -65,8 +66,10 @@ module _ (i : ℕ) (t : Text) (at : ℕ) (s : State) (p : Room) (old : List ℕ)
     puts = r .rows;
     goes-on = λ y.
         at-read i s t at (said x (drop e t)) c
-        ∙ ap (λ (z : State). (lines i (carry s x) ++ sessionFrom (length (drop e t)) (suc i) z (drop e t) .0,
-        sessionFrom (length (drop e t)) (suc i) z (drop e t) .1)) (sym (r .state));
+        ∙ ap (λ (z : State). (
+          lines i (carry s x) ++ sessionFrom (length (drop e t)) (suc i) z (drop e t) .0,
+          sessionFrom (length (drop e t)) (suc i) z (drop e t) .1,
+        )) (sym (r .state));
     onward = λ y.
         (let h = left-length (subst (LeftR 1 (drop at t)) c (command-left (drop at t))) in
         let a = length-drop at t in let b = length-drop e t in omega arith);
@@ -111,6 +114,26 @@ module _ {k : Reader Said} {i : ℕ} {t : Text} {at : ℕ} {s s′ : State} {p q
     refused = λ y. clash refl y;
     unchanged = λ y. clash refl y;
   }
+
+pub behind-unshown : {k : Reader Said} {i : ℕ} {t : Text} {at : ℕ} {s : State} {p q r : Room} {old mid new : List ℕ} {R : Said → Type 0}
+    {e z : ℕ} {there : Bool} → Answers k R t at there e → Unread there p q old mid → not there ≡ true
+    → Puts (row i (decimal 23)) q r mid new → Behind k i t at s s p r old new false z
+behind-unshown {i = i} {p = p} {r = r} {mid = mid} {new = new} d u h g =
+    let n = not-true _ h in
+    behind-unread d h refl
+    (subst (λ (x : List ℕ). Puts (row i (decimal 23)) p r x new) (u .slice n)
+    (subst (λ (x : Room). Puts (row i (decimal 23)) x r mid new) (u .room n) g))
+
+-- a query of one word
+pub asked-alone : (x : Said) {R : Said → Type 0} {t : Text} {at : ℕ} → at ≤ length t → R x → Answers (give x) R t at true at
+unfolding give
+asked-alone x l r = record {
+  yes = λ y. record { value = x; is = refl; took = r; from = le-refl _; inside = l };
+  no = λ y. clash refl y;
+}
+
+pub was-read : {p q : Room} {old new : List ℕ} → Unread true p q old new
+was-read = record { room = λ y. clash refl y; slice = λ y. clash refl y }
 
 -- ---- the whole step
 

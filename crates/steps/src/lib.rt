@@ -13,12 +13,20 @@ use adding::add_modvar;
 use adding::add_spec;
 use adding::add_sys;
 use adding::add_sysvar;
+use asking::OfComponent;
+use asking::OfVersion;
+use asking::show_choice;
+use asking::show_component;
+use asking::show_text;
+use asking::show_undefined;
+use asking::show_unused;
+use asking::show_version;
 use language::OVER;
 use listing::Room;
-use removing::remove_component;
-use removing::remove_version;
 use removing::Component;
 use removing::Version;
+use removing::remove_component;
+use removing::remove_version;
 use states::Decision;
 use states::Shown;
 
@@ -117,11 +125,183 @@ fn decide(
         Command::AddSys => add_sys(sets, numbers, comps, vers, facs, impls, text, at),
         Command::AddModvar => add_modvar(sets, numbers, comps, vers, facs, impls, text, at),
         Command::AddSysvar => add_sysvar(sets, numbers, comps, vers, facs, impls, text, at),
-        Command::DelSpec => remove_component(sets, numbers, comps, vers, facs, impls, text, at, Component::Spec),
-        Command::DelMod => remove_component(sets, numbers, comps, vers, facs, impls, text, at, Component::Module),
-        Command::DelSys => remove_component(sets, numbers, comps, vers, facs, impls, text, at, Component::System),
-        Command::DelModvar => remove_version(sets, numbers, comps, vers, facs, impls, text, at, Version::Module),
-        Command::DelSysvar => remove_version(sets, numbers, comps, vers, facs, impls, text, at, Version::System),
+        Command::DelSpec => remove_component(
+            sets,
+            numbers,
+            comps,
+            vers,
+            facs,
+            impls,
+            text,
+            at,
+            Component::Spec,
+        ),
+        Command::DelMod => remove_component(
+            sets,
+            numbers,
+            comps,
+            vers,
+            facs,
+            impls,
+            text,
+            at,
+            Component::Module,
+        ),
+        Command::DelSys => remove_component(
+            sets,
+            numbers,
+            comps,
+            vers,
+            facs,
+            impls,
+            text,
+            at,
+            Component::System,
+        ),
+        Command::DelModvar => remove_version(
+            sets,
+            numbers,
+            comps,
+            vers,
+            facs,
+            impls,
+            text,
+            at,
+            Version::Module,
+        ),
+        Command::DelSysvar => remove_version(
+            sets,
+            numbers,
+            comps,
+            vers,
+            facs,
+            impls,
+            text,
+            at,
+            Version::System,
+        ),
+    }
+}
+
+// A query, whose first word is read: its rows.
+fn show<'a>(
+    out: &mut [u8],
+    room: Room,
+    i: usize,
+    sets: &'a [u64; 576],
+    numbers: &'a [u8; 8768],
+    comps: &'a [u8; 1056],
+    vers: &'a [u8; 2112],
+    facs: &'a [u8; 2112],
+    impls: &'a [u8; 8448],
+    text: &'a [u8],
+    at: usize,
+    query: Query,
+) -> Shown
+    requires { ⌜ Ready (now sets) (now numbers) (now comps) (now vers) (now facs) (now impls) ⌝ }
+    requires { ⌜ at ≤ length (now text) ⌝ }
+    ensures { λ r. ⌜ Answers (queryOf query) (Carried i (stateOf (now (sets .entry)) (now (numbers .entry)) (now (comps .entry)) (now (vers .entry)) (now (facs .entry)) (now (impls .entry))) (stateOf (now (sets .entry)) (now (numbers .entry)) (now (comps .entry)) (now (vers .entry)) (now (facs .entry)) (now (impls .entry))) room (r .room) (now (out .entry)) (now (out .exit))) (now (text .entry)) at (r .there) (r .end) ⌝ }
+    ensures { λ r. ⌜ Unread (r .there) room (r .room) (now (out .entry)) (now (out .exit)) ⌝ }
+{
+    match query {
+        Query::Supplies => show_component(
+            out,
+            room,
+            i,
+            sets,
+            numbers,
+            comps,
+            vers,
+            facs,
+            impls,
+            text,
+            at,
+            OfComponent::Supplies,
+        ),
+        Query::Needs => show_version(
+            out,
+            room,
+            i,
+            sets,
+            numbers,
+            comps,
+            vers,
+            facs,
+            impls,
+            text,
+            at,
+            OfVersion::Needs,
+        ),
+        Query::Choice => show_choice(
+            out,
+            room,
+            i,
+            sets,
+            numbers,
+            comps,
+            vers,
+            facs,
+            impls,
+            text,
+            at,
+        ),
+        Query::Standard => show_component(
+            out,
+            room,
+            i,
+            sets,
+            numbers,
+            comps,
+            vers,
+            facs,
+            impls,
+            text,
+            at,
+            OfComponent::Standard,
+        ),
+        Query::Undefined => Shown {
+            there: true,
+            end: at,
+            room: show_undefined(out, room, i, sets, numbers, comps, vers, facs, impls),
+        },
+        Query::Unused => Shown {
+            there: true,
+            end: at,
+            room: show_unused(out, room, i, sets, numbers, comps, vers, facs, impls),
+        },
+        Query::WhereUsed => show_component(
+            out,
+            room,
+            i,
+            sets,
+            numbers,
+            comps,
+            vers,
+            facs,
+            impls,
+            text,
+            at,
+            OfComponent::WhereUsed,
+        ),
+        Query::Parts => show_version(
+            out,
+            room,
+            i,
+            sets,
+            numbers,
+            comps,
+            vers,
+            facs,
+            impls,
+            text,
+            at,
+            OfVersion::Parts,
+        ),
+        Query::Out => Shown {
+            there: true,
+            end: at,
+            room: show_text(out, room, i, sets, numbers, comps, vers, facs, impls),
+        },
     }
 }
 
@@ -190,10 +370,32 @@ fn ask<'a>(
     requires { ⌜ at ≤ length (now text) ⌝ }
     ensures { λ r. ⌜ Behind (queryOf query) i (now (text .entry)) at (stateOf (now (sets .entry)) (now (numbers .entry)) (now (comps .entry)) (now (vers .entry)) (now (facs .entry)) (now (impls .entry))) (stateOf (now (sets .entry)) (now (numbers .entry)) (now (comps .entry)) (now (vers .entry)) (now (facs .entry)) (now (impls .entry))) room (r .room) (now (out .entry)) (now (out .exit)) (r .more) (r .end) ⌝ }
 {
+    let s = show(
+        out,
+        room,
+        i,
+        sets,
+        numbers,
+        comps,
+        vers,
+        facs,
+        impls,
+        text,
+        at,
+        query,
+    );
+    let after = s.room;
+    if !s.there {
+        return Advance {
+            more: false,
+            end: at,
+            room: listing::put_answer(out, after, i, NOT_OF_THE_LANGUAGE),
+        };
+    }
     Advance {
-        more: false,
-        end: at,
-        room: room,
+        more: true,
+        end: s.end,
+        room: after,
     }
 }
 
@@ -228,8 +430,34 @@ pub fn step(
     let e = w.end;
     let form = form_of(k);
     match form {
-        Form::Changes(c) => change(sets, numbers, comps, vers, facs, impls, text, e, i, out, room, c),
-        Form::Asks(q) => ask(out, room, i, sets, numbers, comps, vers, facs, impls, text, e, q),
+        Form::Changes(c) => change(
+            sets,
+            numbers,
+            comps,
+            vers,
+            facs,
+            impls,
+            text,
+            e,
+            i,
+            out,
+            room,
+            c,
+        ),
+        Form::Asks(q) => ask(
+            out,
+            room,
+            i,
+            sets,
+            numbers,
+            comps,
+            vers,
+            facs,
+            impls,
+            text,
+            e,
+            q,
+        ),
         Form::Nothing => Advance {
             more: false,
             end: at,

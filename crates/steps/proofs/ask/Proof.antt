@@ -1,11 +1,14 @@
+use borrow.Author.Needs.{needs}
+use Rattle.steps.specs.StepLaws.{behind-shown, behind-unshown}
 use Rattle.steps.proofs.ask.Statement.{statement}
 use Rattle.steps.proofs.ask.Tie as tie
-use Rattle.steps.proofs.ask.Reads as reads
-use Rattle.steps.proofs.ask.Lts as lts
 
--- src/lib.rt:175:1
 returns : tie.Need-returns
-returns c = ?
+returns c = behind-unshown (c .before .before .before .before .before .before .before .before .before .show .ensures .0) (c .before .before .before .before .before .before .before .before .before .show .ensures .1) (c .before .before .before .before .if1 .taken) (c .before .before .put-answer .ensures)
+
+returns-2 : tie.Need-returns-2
+returns-2 c = behind-shown (c .before .before .before .before .before .show .ensures .0) (c .if1 .left)
 
 pub ask-spec : {M : Type 1} → statement M
-ask-spec = tie.close (tie.spec returns)
+ask-spec = tie.close
+    (tie.spec (λ c κs. search needs) (λ c κs. search needs) (λ c. search needs) returns (λ c. search needs) returns-2)

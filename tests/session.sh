@@ -1,0 +1,33 @@
+#!/usr/bin/env bash
+# The proved session: the examples and the stored texts through the program; these and generated sessions through the library, beside the
+# plain program.
+#
+#     tests/session.sh [COUNT [SEED]]
+set -euo pipefail
+cd "$(dirname "$0")/.."
+. tests/built.bash
+count=${1:-4000}
+seed=${2:-1}
+find_program
+find_library
+
+texts=(examples/*.txt tests/vectors/*.txt)
+for text in "${texts[@]}"; do
+    check "$text" prints "${text%.txt}.listing" "$text" "$program"
+done
+
+stack=$(sed -n 's/^#define SVCD_STACK \([0-9]*\)$/\1/p' include/svcd.h)
+log=$(mktemp)
+trap 'rm -f "$log"' EXIT
+compare() {
+    SVCD_LIB=$library CARGO_TARGET_DIR=$PWD/target/cargo cargo run --release --offline --locked --quiet --manifest-path tests/compare/Cargo.toml -- \
+        "$program" "$stack" "$seed" "$count" "${texts[@]}" > "$log"
+}
+check "the comparison of seed $seed, $count sessions" compare
+sed '$d' "$log"
+last=$(tail -n 1 "$log")
+if [[ $last =~ ^([0-9]+)\ passed,\ ([0-9]+)\ failed$ ]]; then
+    passed=$((passed + BASH_REMATCH[1]))
+    failed=$((failed + BASH_REMATCH[2]))
+fi
+verdict

@@ -1,11 +1,20 @@
 # Sourced by the tests, at the top of the repository: the proved program and library, proved and built where that is not done yet.
 # SESSION and SVCD_LIB name others, to try the tests themselves.
 
+# Runs a command, and shows what it wrote only where it fails.
+quietly() {
+    local said
+    if ! said=$("$@" 2>&1); then
+        printf '%s\n' "$said"
+        exit 1
+    fi
+}
+
 # Sets `program` to the program `session`.
 find_program() {
     program=${SESSION:-}
     if [ -z "$program" ]; then
-        rt check session > /dev/null
+        quietly rt check session
         program=$PWD/target/bin/session
     fi
 }
@@ -16,7 +25,7 @@ find_library() {
     if [ -z "$library" ]; then
         library=$PWD/target/staticlib
         if [ ! -f "$library/libsvcd.a" ] || [ -n "$(find crates crates.txt -newer "$library/libsvcd.a" -print -quit)" ]; then
-            rt staticlib svcd > /dev/null
+            quietly rt staticlib svcd
         fi
     fi
 }

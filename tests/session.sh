@@ -16,6 +16,15 @@ for text in "${texts[@]}"; do
     check "$text" prints "${text%.txt}.listing" "$text" "$program"
 done
 
+# The script at the top, as the README calls it: on a file and on standard input.
+if [ -z "${SESSION:-}" ]; then
+    lists() {
+        ./session "$1" | cmp -s - "${1%.txt}.listing"
+    }
+    check "./session FILE" lists examples/teaching.txt
+    check "./session < FILE" prints examples/teaching.listing examples/teaching.txt ./session
+fi
+
 stack=$(sed -n 's/^#define SVCD_STACK \([0-9]*\)$/\1/p' include/svcd.h)
 log=$(mktemp)
 trap 'rm -f "$log"' EXIT

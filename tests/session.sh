@@ -16,6 +16,24 @@ for text in "${texts[@]}"; do
     check "$text" prints "${text%.txt}.listing" "$text" "$program"
 done
 
+# Texts that come in pieces, and one that is much too long.
+folder=$(mktemp -d)
+trap 'rm -rf "$folder"' EXIT
+in_pieces() {
+    local text=examples/brewery.txt
+    {
+        head -c 1000 $text
+        sleep 0.1
+        tail -c +1001 $text | head -c 1
+        sleep 0.1
+        tail -c +1002 $text
+    } | "$program" | cmp -s - "${text%.txt}.listing"
+}
+check "a text in pieces" in_pieces
+head -c 1000000 < <(yes out) > "$folder/million.txt"
+echo 0,22 > "$folder/million.listing"
+check "a million bytes" prints "$folder/million.listing" "$folder/million.txt" "$program"
+
 # The script at the top, as the README calls it: on a file and on standard input.
 if [ -z "${SESSION:-}" ]; then
     lists() {
@@ -26,8 +44,7 @@ if [ -z "${SESSION:-}" ]; then
 fi
 
 stack=$(sed -n 's/^#define SVCD_STACK \([0-9]*\)$/\1/p' include/svcd.h)
-log=$(mktemp)
-trap 'rm -f "$log"' EXIT
+log=$folder/log
 compare() {
     SVCD_LIB=$library CARGO_TARGET_DIR=$PWD/target/cargo cargo run --release --offline --locked --quiet --manifest-path tests/compare/Cargo.toml -- \
         "$program" "$stack" "$seed" "$count" "${texts[@]}" > "$log"

@@ -4,7 +4,8 @@ set -euo pipefail
 cd "$(dirname "$0")/.."
 log=$(mktemp)
 trap 'rm -f "$log"' EXIT
-if ! CARGO_TARGET_DIR=$PWD/target/cargo cargo test --release --offline --locked --quiet --manifest-path tests/plain/Cargo.toml > "$log" 2>&1; then
+export CARGO_TARGET_DIR=$PWD/target/cargo
+if ! cargo test --release --offline --locked --quiet --manifest-path tests/plain/Cargo.toml > "$log" 2>&1; then
     cat "$log"
     echo "0 passed, 1 failed"
     exit 1

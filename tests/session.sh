@@ -45,8 +45,9 @@ fi
 
 stack=$(sed -n 's/^#define SVCD_STACK \([0-9]*\)$/\1/p' include/svcd.h)
 log=$folder/log
+export SVCD_LIB=$library CARGO_TARGET_DIR=$PWD/target/cargo
 compare() {
-    SVCD_LIB=$library CARGO_TARGET_DIR=$PWD/target/cargo cargo run --release --offline --locked --quiet --manifest-path tests/compare/Cargo.toml -- \
+    cargo run --release --offline --locked --quiet --manifest-path tests/compare/Cargo.toml -- \
         "$program" "$stack" "$seed" "$count" "${texts[@]}" > "$log"
 }
 check "the comparison of seed $seed, $count sessions" compare

@@ -38,7 +38,7 @@ fn check_at(checker: &mut Checker, program: &str, seed: u64, place: usize) -> Ch
     let (kind, count) = kind_at(place);
     let seed = seed + place as u64;
     let text = generate(kind, seed, count);
-    let through = place % THROUGH_PROGRAM == 0 || kind == Kind::Long;
+    let through = place.is_multiple_of(THROUGH_PROGRAM) || kind == Kind::Long;
     let checked = checker.check(&text).and_then(|()| match through {
         true => program::check(program, &text),
         false => Ok(()),

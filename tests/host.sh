@@ -44,7 +44,7 @@ done
     head -n 8000 < <(yes out)
 } > "$folder/large.txt"
 gives_up() {
-    build "$folder/small" -O2 && (ulimit -v 32000 && "$folder/small" "$folder/large.txt" 2> "$folder/said") | cmp -s - <(echo 0,22)
+    build "$folder/small" -O2 && (ulimit -v 32000 && "$folder/small" "$folder/large.txt" 8000000 2> "$folder/said") | cmp -s - <(echo 0,22)
 }
 check "a host that can't lend enough" gives_up
 check "a host that can't lend enough: a message" says_only

@@ -3,7 +3,7 @@
 use std::hint::black_box;
 use std::ptr;
 
-const DEPTH: usize = 256 * 1024;
+const DEPTH: usize = 1024 * 1024;
 const MARK: u8 = 0xA5;
 
 /// The lowest address of the marked bytes, which lie below every frame of the caller.

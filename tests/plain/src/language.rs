@@ -175,6 +175,11 @@ impl<'a> Reader<'a> {
         Reader { text, position: 0 }
     }
 
+    /// How much of the text was read.
+    pub fn position(&self) -> usize {
+        self.position
+    }
+
     fn rest(&self) -> &'a [u8] {
         &self.text[self.position..]
     }

@@ -1,0 +1,60 @@
+#!/usr/bin/env bash
+# The proved session: the examples and the stored texts through the program; these and generated sessions through the library, beside the
+# plain program.
+#
+#     tests/session.sh [COUNT [SEED]]
+set -euo pipefail
+cd "$(dirname "$0")/.."
+. tests/built.bash
+count=${1:-4000}
+seed=${2:-1}
+find_program
+find_library
+
+texts=(examples/*.txt tests/vectors/*.txt)
+for text in "${texts[@]}"; do
+    check "$text" prints "${text%.txt}.listing" "$text" "$program"
+done
+
+# Texts that come in pieces, and one that is much too long.
+folder=$(mktemp -d)
+trap 'rm -rf "$folder"' EXIT
+in_pieces() {
+    local text=examples/brewery.txt
+    {
+        head -c 1000 $text
+        sleep 0.1
+        tail -c +1001 $text | head -c 1
+        sleep 0.1
+        tail -c +1002 $text
+    } | "$program" | cmp -s - "${text%.txt}.listing"
+}
+check "a text in pieces" in_pieces
+head -c 1000000 < <(yes out) > "$folder/million.txt"
+echo 0,22 > "$folder/million.listing"
+check "a million bytes" prints "$folder/million.listing" "$folder/million.txt" "$program"
+
+# The script at the top, as the README calls it: on a file and on standard input.
+if [ -z "${SESSION:-}" ]; then
+    lists() {
+        ./session "$1" | cmp -s - "${1%.txt}.listing"
+    }
+    check "./session FILE" lists examples/teaching.txt
+    check "./session < FILE" prints examples/teaching.listing examples/teaching.txt ./session
+fi
+
+stack=$(sed -n 's/^#define SVCD_STACK \([0-9]*\)$/\1/p' include/svcd.h)
+log=$folder/log
+export SVCD_LIB=$library CARGO_TARGET_DIR=$PWD/target/cargo
+compare() {
+    cargo run --release --offline --locked --quiet --manifest-path tests/compare/Cargo.toml -- \
+        "$program" "$stack" "$seed" "$count" "${texts[@]}" > "$log"
+}
+check "the comparison of seed $seed, $count sessions" compare
+sed '$d' "$log"
+last=$(tail -n 1 "$log")
+if [[ $last =~ ^([0-9]+)\ passed,\ ([0-9]+)\ failed$ ]]; then
+    passed=$((passed + BASH_REMATCH[1]))
+    failed=$((failed + BASH_REMATCH[2]))
+fi
+verdict

@@ -1,6 +1,6 @@
 -- What the program prints, whether text and listing fit or not.
 use mathlib.Core.Bool.{Bool, false, true}
-use mathlib.Core.List.{List, _++_}
+use mathlib.Core.List.{List, [], _++_, _∷_}
 use mathlib.Core.Logic.{inl, inr}
 use mathlib.Core.Path.{_∙_, _≡_, ap, refl, sym}
 use Prim.Native.Nat.{_<_, _≤_, ℕ}
@@ -13,6 +13,11 @@ use Rattle.svcd.specs.Reached.{answerOf, lengthOf}
 use Rattle.text.specs.Bytes.{Text, bytes}
 use Rattle.text.specs.LentSlice.{fitsIn, listingIn, prints, programBytes, sliceAfter}
 use Rattle.text.specs.Session.{session}
+
+pub five-bytes : (old new : List ℕ) → new ≡ (48 ∷ 44 ∷ 50 ∷ 50 ∷ 10 ∷ []) ++ drop 5 old → (5 ≤ length new) × (take 5 new ≡ bytes "0,22\n")
+unfolding bytes
+five-bytes old new e =
+    let l = ap length e in (omega arith, ap (take 5) e)
 
 module _ (t : Text) where
   pub text-too-long : programBytes < length t → bytes "0,22\n" ≡ prints t
@@ -41,5 +46,5 @@ module _ (t : Text) where
             omega arith,
             ap (λ (i : ℕ). take i new) m ∙ ap (take (length (session t .0))) w ∙ take-append-seam (session t .0) _ ∙ sym (if-true _ _ _ (fit ∙ y)),
           ))
-      | inr y ↦ (let w : 22 ≡ 0 = sym (if-false _ _ _ y) ∙ sym e ∙ z in absurd (omega arith))
+      | inr y ↦ (let w : _≡_ {A = ℕ} 22 0 = sym (if-false _ _ _ y) ∙ sym e ∙ z in absurd (omega arith))
     ]

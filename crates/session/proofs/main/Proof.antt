@@ -1,63 +1,13 @@
 use borrow.Author.Needs.{needs}
+use mathlib.Core.Path.{sym}
+use lib.Seq.{length-take-le}
 use Rattle.session.proofs.main.Statement.{statement}
 use Rattle.session.proofs.main.Tie as tie
-use Rattle.session.proofs.main.Reads as reads
-use Rattle.session.proofs.main.Lts as lts
-use Rattle.io.proofs.read_full.Reads as read-full-reads
-use Rattle.io.proofs.write_all.Reads as write-all-reads
-use Rattle.session.proofs.print.Reads as print-reads
 
--- src/main.rt:40:30
-slice-aggregate-read-full : tie.Need-slice-aggregate-read-full
-slice-aggregate-read-full c = search needs
-
--- src/main.rt:40:9
-read-full-requires : tie.Need-read-full-requires
-read-full-requires c κs = search needs
-
--- src/main.rt:42:21
-array-share-prefix-text : tie.Need-array-share-prefix-text
-array-share-prefix-text c = search needs
-
--- src/main.rt:42:21
-slice-aggregate-print : tie.Need-slice-aggregate-print
-slice-aggregate-print c = search needs
-
--- src/main.rt:42:33
-slice-aggregate-print-2 : tie.Need-slice-aggregate-print-2
-slice-aggregate-print-2 c = search needs
-
--- src/main.rt:42:9
-print-requires : tie.Need-print-requires
-print-requires c κs = search needs
-
--- src/main.rt:43:22
-array-share-prefix-out : tie.Need-array-share-prefix-out
-array-share-prefix-out c = search needs
-
--- src/main.rt:43:22
 slice-aggregate-write-all : tie.Need-slice-aggregate-write-all
-slice-aggregate-write-all c = ?
-
--- src/main.rt:43:5
-write-all-requires : tie.Need-write-all-requires
-write-all-requires c κs = search needs
-
--- src/main.rt:38:1
-returns : tie.Need-returns
-returns c = search needs
+slice-aggregate-write-all c = sym (length-take-le _ _ (c .before .before .print .ensures .0))
 
 pub main-spec : {M : Type 1} → statement M
-main-spec =
-    tie.close
-    (tie.spec
-    slice-aggregate-read-full
-    read-full-requires
-    array-share-prefix-text
-    slice-aggregate-print
-    slice-aggregate-print-2
-    print-requires
-    array-share-prefix-out
-    slice-aggregate-write-all
-    write-all-requires
-    returns)
+main-spec = tie.close
+    (tie.spec (λ c. search needs) (λ c κs. search needs) (λ c. search needs) (λ c. search needs) (λ c. search needs)
+    (λ c κs. search needs) (λ c. search needs) slice-aggregate-write-all (λ c κs. search needs) (λ c. search needs))

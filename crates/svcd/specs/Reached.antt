@@ -3,7 +3,7 @@ use mathlib.Core.Bool.{Bool, true}
 use mathlib.Core.List.{List}
 use mathlib.Core.Path.{_≡_}
 use Prim.Native.Nat.{_+_, _≤_, ℕ}
-use lib.ListN.{length}
+use lib.ListN.{drop, length}
 use Rattle.listing.specs.Room.{Puts}
 use Rattle.listing.specs.RoomLaws.{Partly}
 use Rattle.listing.specs.declared.Room.{Room}
@@ -11,7 +11,7 @@ use Rattle.sets.specs.Tests.{if_then_else_}
 use Rattle.text.specs.Bytes.{Text}
 use Rattle.text.specs.LentSlice.{fitsIn, sliceAfter, stateAfter}
 use Rattle.text.specs.Session.{State, session}
-use Rattle.steps.specs.Stepped.{sessionAt}
+use Rattle.steps.specs.Stepped.{sessionOf}
 
 -- all of a slice is free
 abbrev pub whole : List ℕ → Room
@@ -24,8 +24,8 @@ pub record Ran (t : Text) (s : State) (q : Room) (old new : List ℕ) : Type 0 w
 
 -- up to position `at` the session is carried out, and command i comes next
 pub record Running (t : Text) (at i : ℕ) (s : State) (q : Room) (old new : List ℕ) : Type 0 where
-  pub listing : Partly (session t .0) (sessionAt i s t at .0) (whole old) q old new
-  pub state : sessionAt i s t at .1 ≡ session t .1
+  pub listing : Partly (session t .0) (sessionOf i s (drop at t) .0) (whole old) q old new
+  pub state : sessionOf i s (drop at t) .1 ≡ session t .1
   pub inside : at ≤ length t
   pub numbered : i ≤ at + 1
 

@@ -33,24 +33,13 @@ fn run(
     let mut at = 0;
     let mut i = 1;
     loop {
-        let s = steps::step(
-            sets,
-            numbers,
-            comps,
-            vers,
-            facs,
-            impls,
-            text,
-            at,
-            i,
-            out,
-            room,
-        );
+        let rest = &text[at..];
+        let s = steps::step(sets, numbers, comps, vers, facs, impls, rest, i, out, room);
         if !s.more {
             return s.room;
         }
         room = s.room;
-        at = s.end;
+        at += s.end;
         i += 1;
     }
 }

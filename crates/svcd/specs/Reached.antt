@@ -11,7 +11,9 @@ use Rattle.sets.specs.Tests.{if_then_else_}
 use Rattle.text.specs.Bytes.{Text}
 use Rattle.text.specs.LentSlice.{fitsIn, sliceAfter, stateAfter}
 use Rattle.text.specs.Session.{State, session}
+use Rattle.states.specs.State.{Ready, stateOf}
 use Rattle.steps.specs.Stepped.{sessionOf}
+use Rattle.svcd.specs.declared.SessionEnd.{SessionEnd}
 
 -- all of a slice is free
 abbrev pub whole : List ℕ → Room
@@ -43,3 +45,16 @@ pub record Leaves (t : Text) (old new : List ℕ) (fits : Bool) (n : ℕ) (s : S
   pub length-is : n ≡ lengthOf old t
   pub slice : new ≡ sliceAfter old t
   pub state : s ≡ stateAfter old t
+
+-- the state that is handed back
+unfoldable pub stateIn : SessionEnd → State
+stateIn r = stateOf (r .book .sets) (r .book .numbers) (r .names .comps) (r .names .vers) (r .names .facs) (r .names .impls)
+
+-- What the library's session on the text t gives back, and the slice then. "It hands back the listing's length or 22"; "The library's
+-- session also hands back its book and tables as reached; after 22 both are empty."
+pub record SessionCall (t : Text) (old new : List ℕ) (r : SessionEnd) : Type 0 where
+  pub answer : r .answer ≡ answerOf old t
+  pub len : r .len ≡ lengthOf old t
+  pub slice : new ≡ sliceAfter old t
+  pub state : stateIn r ≡ stateAfter old t
+  pub ready : Ready (r .book .sets) (r .book .numbers) (r .names .comps) (r .names .vers) (r .names .facs) (r .names .impls)

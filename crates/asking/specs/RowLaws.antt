@@ -73,11 +73,10 @@ answer-put i e ws f g = puts-then (puts-as (ap (λ (n : ℕ). row i (decimal n))
 
 -- ---- pairs
 
-pub pair-put : (i : ℕ) (comps vers : List ℕ) {k x : ℕ} → k ≡ x → {v w : Text} {p q : Room} {a b : List ℕ} → v ≡ nameAt (tableOf components comps) (k / 64)
-    → w ≡ nameAt (tableOf versions vers) (k % 64) → Puts (row i (v ++ (bytes "," ++ w))) p q a b → Puts (row i (pairIn comps vers x)) p q a b
+pub pair-put : (i : ℕ) (comps vers : List ℕ) {k x : ℕ} → k ≡ x → {p q : Room} {a b : List ℕ} → Puts (row i (pairOf comps vers (k / 64) (k % 64))) p q a b
+    → Puts (row i (pairIn comps vers x)) p q a b
 unfolding pairIn
-pair-put i comps vers {k} e c d f =
-    puts-as (ap (λ (n : ℕ). row i (pairOf comps vers (n / 64) (n % 64))) e) (pair-row-as i comps vers (k / 64) (k % 64) c d f)
+pair-put i comps vers e f = puts-as (ap (λ (n : ℕ). row i (pairOf comps vers (n / 64) (n % 64))) e) f
 
 -- those from k on are to come
 module _ (i : ℕ) (comps vers : List ℕ) (n : ℕ) (rows : List ℕ) where

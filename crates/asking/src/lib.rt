@@ -51,7 +51,7 @@ fn put_if_member(
     if !sets::member(set, k) {
         return room;
     }
-    listing::put_name(out, room, i, listing::name(names, places, k))
+    rows::put_name_row(out, room, i, names, places, k)
 }
 
 // The rows of the numbers of a set, rising.
@@ -79,7 +79,7 @@ fn put_numbers(
     requires { ⌜ length (now names) ≡ places * 33 ⌝ }
     ensures { λ r. ⌜ Puts (answerRows i answer (namesIn (tableOf places (now (names .entry))) set)) room r (now (out .entry)) (now (out .exit)) ⌝ }
 {
-    let a = listing::put_answer(out, room, i, wide(answer));
+    let a = rows::put_answer_row(out, room, i, wide(answer));
     put_set(out, a, i, names, places, set)
 }
 
@@ -101,9 +101,9 @@ fn put_pair<'a>(
     ensures { λ r. ⌜ Puts (row i (pairIn (now (comps .entry)) (now (vers .entry)) pair)) room r (now (out .entry)) (now (out .exit)) ⌝ }
 {
     let k = wide_row(pair);
-    let component = listing::name(comps, 32, k / 64);
-    let version = listing::name(vers, 64, k % 64);
-    listing::put_pair(out, room, i, component, version)
+    let c = k / 64;
+    let v = k % 64;
+    rows::put_pair_row(out, room, i, comps, vers, c, v)
 }
 
 // The rows of the first pairs of a slice.
@@ -140,7 +140,7 @@ fn put_listed<'a>(
     requires { ⌜ count ≤ length (now rows) ⌝ }
     ensures { λ r. ⌜ Puts (answerRows i answer (pairsIn (now (comps .entry)) (now (vers .entry)) count (now (rows .entry)))) room r (now (out .entry)) (now (out .exit)) ⌝ }
 {
-    let a = listing::put_answer(out, room, i, wide(answer));
+    let a = rows::put_answer_row(out, room, i, wide(answer));
     put_pairs(out, a, i, comps, vers, rows, count)
 }
 
@@ -208,12 +208,12 @@ fn put_standard<'a>(
     ensures { λ r. ⌜ Puts (lines i (asked (stateOf (now (sets .entry)) (now (numbers .entry)) (now (comps .entry)) (now (vers .entry)) (now (facs .entry)) (now (impls .entry))) (model.STANDARD c))) room r (now (out .entry)) (now (out .exit)) ⌝ }
 {
     let found = queries::standard_in(sets, numbers, c);
-    let a = listing::put_answer(out, room, i, wide(found.answer));
+    let a = rows::put_answer_row(out, room, i, wide(found.answer));
     if found.answer != 0 {
         return a;
     }
     let v = found.version;
-    listing::put_name(out, a, i, listing::name(vers, 64, v))
+    rows::put_name_row(out, a, i, vers, 64, v)
 }
 
 // The one that is asked for.
@@ -294,7 +294,7 @@ fn put_named_component<'a>(
         room r (now (out .entry)) (now (out .exit)) (askedOf query (now (word .entry))) ⌝ }
 {
     let names::Found::At(c) = names::lookup(comps, 32, word) else {
-        return listing::put_answer(out, room, i, 4);
+        return rows::put_answer_row(out, room, i, 4);
     };
     put_of_component(
         out,
@@ -471,10 +471,10 @@ fn put_named_version<'a>(
         room r (now (out .entry)) (now (out .exit)) (askedOfVersion query (now (component .entry)) (now (version .entry))) ⌝ }
 {
     let names::Found::At(c) = names::lookup(comps, 32, component) else {
-        return listing::put_answer(out, room, i, 4);
+        return rows::put_answer_row(out, room, i, 4);
     };
     let names::Found::At(v) = names::lookup(vers, 64, version) else {
-        return listing::put_answer(out, room, i, no_version(sets, numbers, c));
+        return rows::put_answer_row(out, room, i, no_version(sets, numbers, c));
     };
     put_of_version(
         out,
@@ -594,7 +594,7 @@ fn put_known_choice<'a>(
         room r (now (out .entry)) (now (out .exit)) (CHOICE fs)) ⌝ }
 {
     if !known {
-        return listing::put_answer(out, room, i, 0);
+        return rows::put_answer_row(out, room, i, 0);
     }
     put_choice(
         out,
@@ -719,6 +719,6 @@ pub fn show_text<'a>(
         (stateOf (now (sets .entry)) (now (numbers .entry)) (now (comps .entry)) (now (vers .entry)) (now (facs .entry)) (now (impls .entry)))
         room r (now (out .entry)) (now (out .exit)) OUT ⌝ }
 {
-    let a = listing::put_answer(out, room, i, 0);
+    let a = rows::put_answer_row(out, room, i, 0);
     listing::put_text(out, a, sets, numbers, comps, vers, facs, impls)
 }

@@ -340,14 +340,14 @@ fn change(
         return Advance {
             more: false,
             end: at,
-            room: listing::put_answer(out, room, i, NOT_OF_THE_LANGUAGE),
+            room: rows::put_answer_row(out, room, i, NOT_OF_THE_LANGUAGE),
         };
     }
     let answer = d.answer;
     Advance {
         more: true,
         end: d.end,
-        room: listing::put_answer(out, room, i, answer),
+        room: rows::put_answer_row(out, room, i, answer),
     }
 }
 
@@ -389,7 +389,7 @@ fn ask<'a>(
         return Advance {
             more: false,
             end: at,
-            room: listing::put_answer(out, after, i, NOT_OF_THE_LANGUAGE),
+            room: rows::put_answer_row(out, after, i, NOT_OF_THE_LANGUAGE),
         };
     }
     Advance {
@@ -459,7 +459,7 @@ pub fn step(
         Form::Nothing => Advance {
             more: false,
             end: 0,
-            room: listing::put_answer(out, room, i, NOT_OF_THE_LANGUAGE),
+            room: rows::put_answer_row(out, room, i, NOT_OF_THE_LANGUAGE),
         },
     }
 }

@@ -5,7 +5,7 @@ use Rattle.asking.proofs.put_known_choice.Statement.{statement}
 use Rattle.asking.proofs.put_known_choice.Tie as tie
 
 returns : tie.Need-returns
-returns c = λ fs all set. choice-nothing _ _ _ _ _ _ _ _ fs all (c .before .before .before .before .if1 .taken) (c .before .before .put-answer .ensures)
+returns c = λ fs all set. choice-nothing _ _ _ _ _ _ _ _ fs all (c .before .before .before .before .if1 .taken) (c .before .before .put-answer-row .ensures)
 
 returns-2 : tie.Need-returns-2
 returns-2 c = λ fs all set.

@@ -4,7 +4,7 @@ use Rattle.asking.proofs.put_listed.Statement.{statement}
 use Rattle.asking.proofs.put_listed.Tie as tie
 
 returns : tie.Need-returns
-returns c = answer-put _ (c .before .before .before .before .before .before .before .wide .ensures) _ (c .before .before .before .before .before .before .put-answer .ensures) (c .before .before .put-pairs .ensures)
+returns c = answer-put _ (c .before .before .before .before .before .before .before .wide .ensures) _ (c .before .before .before .before .before .before .put-answer-row .ensures) (c .before .before .put-pairs .ensures)
 
 pub put-listed-spec : {M : Type 1} → statement M
 put-listed-spec = tie.close

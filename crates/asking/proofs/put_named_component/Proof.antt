@@ -4,7 +4,7 @@ use Rattle.asking.proofs.put_named_component.Statement.{statement}
 use Rattle.asking.proofs.put_named_component.Tie as tie
 
 returns : tie.Need-returns
-returns c = component-unknown _ _ _ _ _ _ _ _ _ _ (c .before .before .before .before .before .before .lookup .ensures) (c .before .before .before .before .enum-told .given .1) (c .before .before .put-answer .ensures)
+returns c = component-unknown _ _ _ _ _ _ _ _ _ _ (c .before .before .before .before .before .before .lookup .ensures) (c .before .before .before .before .enum-told .given .1) (c .before .before .put-answer-row .ensures)
 
 returns-2 : tie.Need-returns-2
 returns-2 c = component-known _ _ _ _ _ _ _ _ _ _ (c .before .before .before .before .before .before .before .lookup .ensures) _ (c .before .before .before .before .before .c .given .1) (c .before .before .put-of-component .ensures)

@@ -4,7 +4,7 @@ use Rattle.asking.proofs.put_named_version.Statement.{statement}
 use Rattle.asking.proofs.put_named_version.Tie as tie
 
 returns : tie.Need-returns
-returns c = version-no-component _ _ _ _ _ _ _ _ _ _ _ (c .before .before .before .before .before .before .lookup .ensures) (c .before .before .before .before .enum-told .given .1) (c .before .before .put-answer .ensures)
+returns c = version-no-component _ _ _ _ _ _ _ _ _ _ _ (c .before .before .before .before .before .before .lookup .ensures) (c .before .before .before .before .enum-told .given .1) (c .before .before .put-answer-row .ensures)
 
 no-version-requires : tie.Need-no-version-requires
 no-version-requires c κs = number-small _ _ _ _ _ (c .before .before .before .before .before .before .before .before .lookup .ensures) (c .before .before .before .before .before .before .c .given .1)
@@ -12,7 +12,7 @@ no-version-requires c κs = number-small _ _ _ _ _ (c .before .before .before .b
 returns-2 : tie.Need-returns-2
 returns-2 c =
     version-no-number _ _ _ _ _ _ _ _ _ _ _ (c .before .before .before .before .before .before .before .before .before .before .before .before .lookup .ensures) _ (c .before .before .before .before .before .before .before .before .before .before .c .given .1) _ (c .before .before .before .before .before .before .before .lookup2 .ensures) (c .before .before .before .before .before .enum-told2 .given .1)
-    _ (c .before .before .before .no-version .ensures) (c .before .before .put-answer2 .ensures)
+    _ (c .before .before .before .no-version .ensures) (c .before .before .put-answer-row2 .ensures)
 
 returns-3 : tie.Need-returns-3
 returns-3 c =

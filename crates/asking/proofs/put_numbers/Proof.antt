@@ -4,7 +4,7 @@ use Rattle.asking.proofs.put_numbers.Statement.{statement}
 use Rattle.asking.proofs.put_numbers.Tie as tie
 
 returns : tie.Need-returns
-returns c = answer-put _ (c .before .before .before .before .before .before .before .wide .ensures) _ (c .before .before .before .before .before .before .put-answer .ensures) (c .before .before .put-set .ensures)
+returns c = answer-put _ (c .before .before .before .before .before .before .before .wide .ensures) _ (c .before .before .before .before .before .before .put-answer-row .ensures) (c .before .before .put-set .ensures)
 
 pub put-numbers-spec : {M : Type 1} → statement M
 put-numbers-spec = tie.close

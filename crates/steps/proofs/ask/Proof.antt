@@ -4,7 +4,7 @@ use Rattle.steps.proofs.ask.Statement.{statement}
 use Rattle.steps.proofs.ask.Tie as tie
 
 returns : tie.Need-returns
-returns c = behind-unshown (c .before .before .before .before .before .before .before .before .before .show .ensures .0) (c .before .before .before .before .before .before .before .before .before .show .ensures .1) (c .before .before .before .before .if1 .taken) (c .before .before .put-answer .ensures)
+returns c = behind-unshown (c .before .before .before .before .before .before .before .before .before .show .ensures .0) (c .before .before .before .before .before .before .before .before .before .show .ensures .1) (c .before .before .before .before .if1 .taken) (c .before .before .put-answer-row .ensures)
 
 returns-2 : tie.Need-returns-2
 returns-2 c = behind-shown (c .before .before .before .before .before .show .ensures .0) (c .if1 .left)

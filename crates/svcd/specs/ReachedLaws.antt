@@ -31,27 +31,27 @@ on-rest w {i} {e} {s} {s′} {q} {r} {now} {new} {more} d = subst (λ (x : Text)
 
 module _ {t : Text} {at i e : ℕ} {s s′ : State} {q r : Room} {old now new : List ℕ} {more : Bool} (u : Running t at i s q old now)
     (d : Stepped i (drop at t) s s′ q r now new more e) where
-  forward : notᵇ more ≡ false → (0 < e) × (at + e ≤ length t)
+  pub forward : notᵇ more ≡ false → (0 < e) × (at + e ≤ length t)
   forward h =
       let m = not-false more h in let a = d .onward m in let b = d .inside m in let l = length-drop at t in let k = u .inside in
       (a, omega arith)
 
-  pub running-on : notᵇ more ≡ false → Running t (at + e) (i + 1) s′ r old new
-  running-on h =
+  pub running-on : {f : ℕ} → f ≡ at + e → notᵇ more ≡ false → Running t f (i + 1) s′ r old new
+  running-on {f} behind h =
       let m = not-false more h in
       let g = d .goes-on m in
       let n : suc i ≡ i + 1 = omega arith in
-      let w : drop e (drop at t) ≡ drop (at + e) t = drop-drop e at t in
+      let w : drop e (drop at t) ≡ drop f t = drop-drop e at t ∙ ap (λ (k : ℕ). drop k t) (sym behind) in
       record {
         listing = partly-more (partly-as (ap (λ (z : Text × State). z .0) g
             ∙ ap₂ (λ (k : ℕ) (v : Text). d .rows ++ sessionOf k s′ v .0) n w) (u .listing)) (d .puts);
         state = ap₂ (λ (k : ℕ) (v : Text). sessionOf k s′ v .1) (sym n) (sym w) ∙ sym (ap (λ (z : Text × State). z .1) g) ∙ u .state;
-        inside = forward h .1;
-        numbered = (let a = forward h .0 in let b = u .numbered in omega arith);
+        inside = (let a = forward h .1 in omega (arith, behind));
+        numbered = (let a = forward h .0 in let b = u .numbered in omega (arith, behind));
       }
 
-  pub running-less : notᵇ more ≡ false → length t - (at + e) < length t - at
-  running-less h = let a = forward h .0 in let b = forward h .1 in omega arith
+  pub running-less : {f : ℕ} → f ≡ at + e → notᵇ more ≡ false → length t - f < length t - at
+  running-less behind h = let a = forward h .0 in let b = forward h .1 in omega (arith, behind)
 
   pub ran : notᵇ more ≡ true → Ran t s′ r old new
   ran h =
@@ -61,8 +61,6 @@ module _ {t : Text} {at i e : ℕ} {s s′ : State} {q r : Room} {old now new : 
         state = sym (ap (λ (z : Text × State). z .1) g) ∙ u .state;
       }
 
-  -- the next position and the number of the next command are ones of the machine's
-  pub step-fits : notᵇ more ≡ false → length t * 1 < 9223372036854775808
-      → (at + e < 18446744073709551616) × (i + 1 < 18446744073709551616)
-  step-fits h l =
-      let a = forward h .0 in let b = forward h .1 in let n = u .numbered in (omega arith, omega arith)
+  -- the number of the next command is one of the machine's
+  pub step-fits : notᵇ more ≡ false → length t * 1 < 9223372036854775808 → i + 1 < 18446744073709551616
+  step-fits h l = let a = forward h .0 in let b = forward h .1 in let n = u .numbered in omega arith

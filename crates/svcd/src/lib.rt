@@ -33,13 +33,14 @@ fn run(
     let mut at = 0;
     let mut i = 1;
     loop {
-        let rest = &text[at..];
+        let rest = reader::rest_of(text, at);
         let s = steps::step(sets, numbers, comps, vers, facs, impls, rest, i, out, room);
         if !s.more {
             return s.room;
         }
         room = s.room;
-        at += s.end;
+        let end = s.end;
+        at = reader::position_behind(text, at, end);
         i += 1;
     }
 }

@@ -53,7 +53,7 @@ fn new_at(names: &[u8], places: usize, i: usize) -> bool
 }
 
 // "no name twice in a table"
-pub fn none_twice(names: &[u8], places: usize) -> bool
+fn none_twice(names: &[u8], places: usize) -> bool
     requires { ⌜ length (now names) ≡ places * 33 ⌝ }
     ensures { λ r. ⌜ r ≡ noneTwice (tableOf places (now (names .entry))) ⌝ }
 {

@@ -3,7 +3,7 @@ use mathlib.Core.Bool.{Bool, false, not, true}
 use mathlib.Core.List.{List, [], _++_}
 use mathlib.Core.Logic.{inl, inr}
 use mathlib.Core.Path.{_∙_, _≡_, ap, refl, subst, sym}
-use Prim.Native.Nat.{_+_, _-_, _<_, _≤_, suc, ℕ}
+use Prim.Native.Nat.{_<_, _≤_, suc, ℕ}
 use native.Mathlib.Nat.{le-refl}
 use native.Mathlib.Omega.{arith}
 use borrow.Author.Tests.{not-false, not-true}
@@ -25,17 +25,17 @@ use Rattle.text_theorems.specs.Left.{left-length}
 use Rattle.text_theorems.specs.Takes.{LeftR, command-left}
 use Rattle.steps.specs.FormLaws.{form-read, no-form}
 use Rattle.steps.specs.Forms.{formOf, readerOf}
-use Rattle.steps.specs.Stepped.{Behind, Stepped, sessionAt}
+use Rattle.steps.specs.Stepped.{Behind, Stepped, sessionOf}
 use Rattle.steps.specs.declared.Form.{Form}
 use Rattle.steps.specs.declared.Form.the-variants.{Nothing}
 
-at-read : (i : ℕ) (s : State) (t : Text) (at : ℕ) (r : Read) → command (drop at t) ≡ r
-    → sessionAt i s t at ≡ onRead (λ s′ u. sessionFrom (length u) (suc i) s′ u) i s r
-unfolding sessionAt
-at-read i s t at r e = session-step i s (drop at t) ∙ ap (onRead (λ s′ u. sessionFrom (length u) (suc i) s′ u) i s) e
+as-read : (i : ℕ) (s : State) (t : Text) (r : Read) → command t ≡ r
+    → sessionOf i s t ≡ onRead (λ s′ u. sessionFrom (length u) (suc i) s′ u) i s r
+unfolding sessionOf
+as-read i s t r e = session-step i s t ∙ ap (onRead (λ s′ u. sessionFrom (length u) (suc i) s′ u) i s) e
 
-module _ (i : ℕ) (t : Text) (at : ℕ) (s : State) (p : Room) (old : List ℕ) where
-  pub step-over : (e : ℕ) → command (drop at t) ≡ over → Stepped i t at s s p p old old false e
+module _ (i : ℕ) (t : Text) (s : State) (p : Room) (old : List ℕ) where
+  pub step-over : (e : ℕ) → command t ≡ over → Stepped i t s s p p old old false e
   unfolding onRead
   step-over e c = record {
     rows = [];
@@ -43,11 +43,11 @@ module _ (i : ℕ) (t : Text) (at : ℕ) (s : State) (p : Room) (old : List ℕ)
     goes-on = λ y. clash y refl;
     onward = λ y. clash y refl;
     inside = λ y. clash y refl;
-    ends = λ y. at-read i s t at over c;
+    ends = λ y. as-read i s t over c;
   }
 
-  pub step-wrong : (q : Room) (new : List ℕ) (e : ℕ) → command (drop at t) ≡ wrong → Puts (row i (decimal 23)) p q old new
-      → Stepped i t at s s p q old new false e
+  pub step-wrong : (q : Room) (new : List ℕ) (e : ℕ) → command t ≡ wrong → Puts (row i (decimal 23)) p q old new
+      → Stepped i t s s p q old new false e
   unfolding onRead
   step-wrong q new e c r = record {
     rows = row i (decimal 23);
@@ -55,24 +55,23 @@ module _ (i : ℕ) (t : Text) (at : ℕ) (s : State) (p : Room) (old : List ℕ)
     goes-on = λ y. clash y refl;
     onward = λ y. clash y refl;
     inside = λ y. clash y refl;
-    ends = λ y. at-read i s t at wrong c;
+    ends = λ y. as-read i s t wrong c;
   }
 
-  pub step-said : (s′ : State) (q : Room) (new : List ℕ) (x : Said) (e : ℕ) → at ≤ length t → e ≤ length t
-      → command (drop at t) ≡ said x (drop e t) → Carried i s s′ p q old new x → Stepped i t at s s′ p q old new true e
-  unfolding onRead sessionAt
-  step-said s′ q new x e l m c r = record {
+  pub step-said : (s′ : State) (q : Room) (new : List ℕ) (x : Said) (e : ℕ) → e ≤ length t → command t ≡ said x (drop e t)
+      → Carried i s s′ p q old new x → Stepped i t s s′ p q old new true e
+  unfolding onRead sessionOf
+  step-said s′ q new x e m c r = record {
     rows = lines i (carry s x);
     puts = r .rows;
     goes-on = λ y.
-        at-read i s t at (said x (drop e t)) c
+        as-read i s t (said x (drop e t)) c
         ∙ ap (λ (z : State). (
           lines i (carry s x) ++ sessionFrom (length (drop e t)) (suc i) z (drop e t) .0,
           sessionFrom (length (drop e t)) (suc i) z (drop e t) .1,
         )) (sym (r .state));
     onward = λ y.
-        (let h = left-length (subst (LeftR 1 (drop at t)) c (command-left (drop at t))) in
-        let a = length-drop at t in let b = length-drop e t in omega arith);
+        (let h = left-length (subst (LeftR 1 t) c (command-left t)) in let b = length-drop e t in omega arith);
     inside = λ y. m;
     ends = λ y. clash refl y;
   }
@@ -140,8 +139,8 @@ was-read = record { room = λ y. clash refl y; slice = λ y. clash refl y }
 below : {n : ℕ} → (28 ≤ n → ⊥) → n < 28
 below h = omega (arith, h)
 
-module _ {t : Text} {at n e : ℕ} (l : at ≤ length t) (c : CommandAt t at n e) where
-  found-as : n < 28 → (f : Form) → formOf n ≡ f → command (drop at t) ≡ readAs (readerOf f (drop e t))
+module _ {t : Text} {n e : ℕ} (c : CommandAt t 0 n e) where
+  found-as : n < 28 → (f : Form) → formOf n ≡ f → command t ≡ readAs (readerOf f (drop e t))
   found-as b f h = c .begins b ∙ form-read n b (drop e t) ∙ ap (λ (g : Form). readAs (readerOf g (drop e t))) h
 
   begun : (f : Form) → formOf n ≡ f → (f ≡ Nothing → ⊥) → n < 28
@@ -151,26 +150,26 @@ module _ {t : Text} {at n e : ℕ} (l : at ≤ length t) (c : CommandAt t at n e
   begun-inside f h h′ = c .inside (begun f h h′)
 
   pub steps-behind : {i : ℕ} {s s′ : State} {p q : Room} {old new : List ℕ} {more : Bool} {z : ℕ} (f : Form) → formOf n ≡ f → (f ≡ Nothing → ⊥)
-      → Behind (readerOf f) i t e s s′ p q old new more z → Stepped i t at s s′ p q old new more z
+      → Behind (readerOf f) i t e s s′ p q old new more z → Stepped i t s s′ p q old new more z
   unfolding readAs
   steps-behind {i} {s} {s′} {p} {q} {old} {new} {more} {z} f h h′ d = elim (bool? more) [
     | inl y ↦ (let g = d .read y in
-        subst (λ (b : Bool). Stepped i t at s s′ p q old new b z) (sym y)
-        (step-said i t at s p old s′ q new (g .value) z l (g .inside) (command-is ∙ ap readAs (g .is)) (g .took)))
-    | inr y ↦ subst (λ (b : Bool). Stepped i t at s s′ p q old new b z) (sym y)
-        (subst (λ (u : State). Stepped i t at s u p q old new false z) (sym (d .unchanged y))
-        (step-wrong i t at s p old q new z (command-is ∙ ap readAs (d .unread y)) (d .refused y)))
+        subst (λ (b : Bool). Stepped i t s s′ p q old new b z) (sym y)
+        (step-said i t s p old s′ q new (g .value) z (g .inside) (command-is ∙ ap readAs (g .is)) (g .took)))
+    | inr y ↦ subst (λ (b : Bool). Stepped i t s s′ p q old new b z) (sym y)
+        (subst (λ (u : State). Stepped i t s u p q old new false z) (sym (d .unchanged y))
+        (step-wrong i t s p old q new z (command-is ∙ ap readAs (d .unread y)) (d .refused y)))
   ]
     where
-      command-is : command (drop at t) ≡ readAs (readerOf f (drop e t))
+      command-is : command t ≡ readAs (readerOf f (drop e t))
       command-is = found-as (begun f h h′) f h
 
   pub steps-nothing : {i : ℕ} {s : State} {p q : Room} {old new : List ℕ} (z : ℕ) → (n ≡ 29 → ⊥) → formOf n ≡ Nothing
-      → Puts (row i (decimal 23)) p q old new → Stepped i t at s s p q old new false z
+      → Puts (row i (decimal 23)) p q old new → Stepped i t s s p q old new false z
   unfolding readAs readerOf
-  steps-nothing {i} {s} {p} {q} {old} {new} z a h r = step-wrong i t at s p old q new z not-read r
+  steps-nothing {i} {s} {p} {q} {old} {new} z a h r = step-wrong i t s p old q new z not-read r
     where
-      not-read : command (drop at t) ≡ wrong
+      not-read : command t ≡ wrong
       not-read = elim (bool? (n <? 28)) [
         | inl y ↦ found-as (<?-out _ _ y) Nothing h
         | inr y ↦ c .none-there (let j = <?-no _ _ y in let m = c .numbered in omega (arith, a))

@@ -1,4 +1,4 @@
--- One step of a session: from position `at` on the next command, number i, is read and carried out.
+-- One step of a session: the next command, number i, is read and carried out.
 use mathlib.Core.Bool.{Bool, false, true}
 use mathlib.Core.List.{List, _++_}
 use mathlib.Core.Option.{none}
@@ -13,9 +13,9 @@ use Rattle.text.specs.Bytes.{Text}
 use Rattle.text.specs.Language.{Reader, Said}
 use Rattle.text.specs.Session.{State, decimal, row, sessionFrom}
 
--- the session from position `at` of the text on, in the state s and with command number i
-unfoldable pub sessionAt : ℕ → State → Text → ℕ → Text × State
-sessionAt i s t at = sessionFrom (length (drop at t)) i s (drop at t)
+-- the session of the text t, in the state s and with command number i
+unfoldable pub sessionOf : ℕ → State → Text → Text × State
+sessionOf i s t = sessionFrom (length t) i s t
 
 -- The command that the reader k reads from position `at` on: if there is one, up to e, it is carried out; if not, the row says 23 and
 -- nothing is changed.
@@ -26,11 +26,12 @@ pub record Behind (k : Reader Said) (i : ℕ) (t : Text) (at : ℕ) (s s′ : St
   pub refused : more ≡ false → Puts (row i (decimal 23)) p q old new
   pub unchanged : more ≡ false → s′ ≡ s
 
--- The whole step: s′ is the state afterwards; `rows` are put. If there is more, the session goes on at e, behind `at`.
-pub record Stepped (i : ℕ) (t : Text) (at : ℕ) (s s′ : State) (p q : Room) (old new : List ℕ) (more : Bool) (e : ℕ) : Type 0 where
+-- The whole step, on the text t, the rest after the commands before: s′ is the state afterwards; `rows` are put. If there is more, the
+-- session goes on behind the first e bytes.
+pub record Stepped (i : ℕ) (t : Text) (s s′ : State) (p q : Room) (old new : List ℕ) (more : Bool) (e : ℕ) : Type 0 where
   pub rows : Text
   pub puts : Puts rows p q old new
-  pub goes-on : more ≡ true → sessionAt i s t at ≡ (rows ++ sessionAt (suc i) s′ t e .0, sessionAt (suc i) s′ t e .1)
-  pub onward : more ≡ true → at < e
+  pub goes-on : more ≡ true → sessionOf i s t ≡ (rows ++ sessionOf (suc i) s′ (drop e t) .0, sessionOf (suc i) s′ (drop e t) .1)
+  pub onward : more ≡ true → 0 < e
   pub inside : more ≡ true → e ≤ length t
-  pub ends : more ≡ false → sessionAt i s t at ≡ (rows, s′)
+  pub ends : more ≡ false → sessionOf i s t ≡ (rows, s′)

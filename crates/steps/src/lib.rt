@@ -399,7 +399,7 @@ fn ask<'a>(
     }
 }
 
-// The next command of the text, the i-th: its rows, and its change of book and tables.
+// The next command, the i-th, which is read from the rest of the text after the one before: its rows, and its change of book and tables.
 pub fn step(
     sets: &mut [u64; 576],
     numbers: &mut [u8; 8768],
@@ -407,23 +407,21 @@ pub fn step(
     vers: &mut [u8; 2112],
     facs: &mut [u8; 2112],
     impls: &mut [u8; 8448],
-    text: &[u8],
-    at: usize,
+    rest: &[u8],
     i: usize,
     out: &mut [u8],
     room: Room,
 ) -> Advance
     requires { ⌜ Ready (now sets) (now numbers) (now comps) (now vers) (now facs) (now impls) ⌝ }
-    requires { ⌜ at ≤ length (now text) ⌝ }
     ensures { λ r. ⌜ Ready (now (sets .exit)) (now (numbers .exit)) (now (comps .exit)) (now (vers .exit)) (now (facs .exit)) (now (impls .exit)) ⌝ }
-    ensures { λ r. ⌜ Stepped i (now (text .entry)) at (stateOf (now (sets .entry)) (now (numbers .entry)) (now (comps .entry)) (now (vers .entry)) (now (facs .entry)) (now (impls .entry))) (stateOf (now (sets .exit)) (now (numbers .exit)) (now (comps .exit)) (now (vers .exit)) (now (facs .exit)) (now (impls .exit))) room (r .room) (now (out .entry)) (now (out .exit)) (r .more) (r .end) ⌝ }
+    ensures { λ r. ⌜ Stepped i (now (rest .entry)) (stateOf (now (sets .entry)) (now (numbers .entry)) (now (comps .entry)) (now (vers .entry)) (now (facs .entry)) (now (impls .entry))) (stateOf (now (sets .exit)) (now (numbers .exit)) (now (comps .exit)) (now (vers .exit)) (now (facs .exit)) (now (impls .exit))) room (r .room) (now (out .entry)) (now (out .exit)) (r .more) (r .end) ⌝ }
 {
-    let w = language::read_command(text, at);
+    let w = language::read_command(rest, 0);
     let k = w.number;
     if k == OVER {
         return Advance {
             more: false,
-            end: at,
+            end: 0,
             room: room,
         };
     }
@@ -437,7 +435,7 @@ pub fn step(
             vers,
             facs,
             impls,
-            text,
+            rest,
             e,
             i,
             out,
@@ -454,13 +452,13 @@ pub fn step(
             vers,
             facs,
             impls,
-            text,
+            rest,
             e,
             q,
         ),
         Form::Nothing => Advance {
             more: false,
-            end: at,
+            end: 0,
             room: listing::put_answer(out, room, i, NOT_OF_THE_LANGUAGE),
         },
     }

@@ -31,7 +31,7 @@ use Rattle.text.specs.Bytes.{Text}
 use Rattle.text.specs.LentSlice.{fitsIn, hostFits, hostResult, hostSlice, listingIn, mostBytes, sliceAfter, stateAfter}
 use Rattle.text.specs.Session.{State, fresh, session}
 use Rattle.text.specs.Tables.{Table, Tables, noNames}
-use Rattle.svcd.specs.Reached.{Leaves, Ran, answerOf, lengthOf}
+use Rattle.svcd.specs.Reached.{Leaves, Ran, SessionCall, answerOf, lengthOf, stateIn}
 
 -- ---- the listing
 
@@ -97,6 +97,18 @@ module _ {t : Text} {old new : List ℕ} {fits : Bool} {n : ℕ} {s : State} (l 
   pub answers-22 : fits ≡ false → 22 ≡ answerOf old t
   unfolding answerOf
   answers-22 z = sym (if-false _ _ _ (sym (l .fits-is) ∙ z))
+
+-- all that it gives back
+pub called : {t : Text} {old new : List ℕ} {fits : Bool} {n a : ℕ} {c v f i ss ns : List ℕ}
+    → Leaves t old new fits n (stateOf ss ns c v f i) → a ≡ answerOf old t → Ready ss ns c v f i
+    → SessionCall t old new (record {
+      answer = a;
+      len = n;
+      book = record { sets = ss; numbers = ns };
+      names = record { comps = c; vers = v; facs = f; impls = i };
+    })
+unfolding stateIn
+called l a r = record { answer = a; len = l .length-is; slice = l .slice; state = l .state; ready = r }
 
 -- ---- the host's call
 

@@ -3,7 +3,7 @@ use mathlib.Core.Bool.{Bool, true}
 use mathlib.Core.List.{List}
 use mathlib.Core.Path.{_≡_}
 use Prim.Native.Nat.{_+_, _≤_, ℕ}
-use lib.ListN.{length}
+use lib.ListN.{drop, length}
 use Rattle.listing.specs.Room.{Puts}
 use Rattle.listing.specs.RoomLaws.{Partly}
 use Rattle.listing.specs.declared.Room.{Room}
@@ -11,7 +11,9 @@ use Rattle.sets.specs.Tests.{if_then_else_}
 use Rattle.text.specs.Bytes.{Text}
 use Rattle.text.specs.LentSlice.{fitsIn, sliceAfter, stateAfter}
 use Rattle.text.specs.Session.{State, session}
-use Rattle.steps.specs.Stepped.{sessionAt}
+use Rattle.states.specs.State.{Ready, stateOf}
+use Rattle.steps.specs.Stepped.{sessionOf}
+use Rattle.svcd.specs.declared.SessionEnd.{SessionEnd}
 
 -- all of a slice is free
 abbrev pub whole : List ℕ → Room
@@ -24,8 +26,8 @@ pub record Ran (t : Text) (s : State) (q : Room) (old new : List ℕ) : Type 0 w
 
 -- up to position `at` the session is carried out, and command i comes next
 pub record Running (t : Text) (at i : ℕ) (s : State) (q : Room) (old new : List ℕ) : Type 0 where
-  pub listing : Partly (session t .0) (sessionAt i s t at .0) (whole old) q old new
-  pub state : sessionAt i s t at .1 ≡ session t .1
+  pub listing : Partly (session t .0) (sessionOf i s (drop at t) .0) (whole old) q old new
+  pub state : sessionOf i s (drop at t) .1 ≡ session t .1
   pub inside : at ≤ length t
   pub numbered : i ≤ at + 1
 
@@ -43,3 +45,16 @@ pub record Leaves (t : Text) (old new : List ℕ) (fits : Bool) (n : ℕ) (s : S
   pub length-is : n ≡ lengthOf old t
   pub slice : new ≡ sliceAfter old t
   pub state : s ≡ stateAfter old t
+
+-- the state that is handed back
+unfoldable pub stateIn : SessionEnd → State
+stateIn r = stateOf (r .book .sets) (r .book .numbers) (r .names .comps) (r .names .vers) (r .names .facs) (r .names .impls)
+
+-- What the library's session on the text t gives back, and the slice then. "It hands back the listing's length or 22"; "The library's
+-- session also hands back its book and tables as reached; after 22 both are empty."
+pub record SessionCall (t : Text) (old new : List ℕ) (r : SessionEnd) : Type 0 where
+  pub answer : r .answer ≡ answerOf old t
+  pub len : r .len ≡ lengthOf old t
+  pub slice : new ≡ sliceAfter old t
+  pub state : stateIn r ≡ stateAfter old t
+  pub ready : Ready (r .book .sets) (r .book .numbers) (r .names .comps) (r .names .vers) (r .names .facs) (r .names .impls)

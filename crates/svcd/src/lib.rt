@@ -2,8 +2,8 @@
 ghost use mathlib.Core.Path.{_≡_};
 ghost use Rattle.states.specs.State.{Ready, stateOf};
 ghost use Rattle.text.specs.Session.{fresh};
-ghost use Rattle.svcd.specs.Reached.{Leaves, Ran, answerOf, lengthOf};
-ghost use Rattle.text.specs.LentSlice.{hostResult, hostSlice, sliceAfter, stateAfter};
+ghost use Rattle.svcd.specs.Reached.{Leaves, Ran, SessionCall};
+ghost use Rattle.text.specs.LentSlice.{hostResult, hostSlice};
 use book::Book;
 use listing::Room;
 use names::Names;
@@ -33,24 +33,13 @@ fn run(
     let mut at = 0;
     let mut i = 1;
     loop {
-        let s = steps::step(
-            sets,
-            numbers,
-            comps,
-            vers,
-            facs,
-            impls,
-            text,
-            at,
-            i,
-            out,
-            room,
-        );
+        let rest = &text[at..];
+        let s = steps::step(sets, numbers, comps, vers, facs, impls, rest, i, out, room);
         if !s.more {
             return s.room;
         }
         room = s.room;
-        at = s.end;
+        at += s.end;
         i += 1;
     }
 }
@@ -115,7 +104,7 @@ fn list(
 }
 
 // What a session gives back: 0 and the length of its listing, or 22 and 0; its book and tables as reached.
-pub struct Reached {
+pub struct SessionEnd {
     pub answer: usize,
     pub len: usize,
     pub book: Book,
@@ -123,12 +112,8 @@ pub struct Reached {
 }
 
 // The session of a text, its listing in a lent slice.
-pub fn session(text: &[u8], out: &mut [u8]) -> Reached
-    ensures { λ r. ⌜ now (out .exit) ≡ sliceAfter (now (out .entry)) (now (text .entry)) ⌝ }
-    ensures { λ r. ⌜ r .answer ≡ answerOf (now (out .entry)) (now (text .entry)) ⌝ }
-    ensures { λ r. ⌜ r .len ≡ lengthOf (now (out .entry)) (now (text .entry)) ⌝ }
-    ensures { λ r. ⌜ stateOf (r .book .sets) (r .book .numbers) (r .names .comps) (r .names .vers) (r .names .facs) (r .names .impls) ≡ stateAfter (now (out .entry)) (now (text .entry)) ⌝ }
-    ensures { λ r. ⌜ Ready (r .book .sets) (r .book .numbers) (r .names .comps) (r .names .vers) (r .names .facs) (r .names .impls) ⌝ }
+pub fn session(text: &[u8], out: &mut [u8]) -> SessionEnd
+    ensures { λ r. ⌜ SessionCall (now (text .entry)) (now (out .entry)) (now (out .exit)) r ⌝ }
 {
     let mut sets = [0; 576];
     let mut numbers = [0; 8768];
@@ -156,7 +141,7 @@ pub fn session(text: &[u8], out: &mut [u8]) -> Reached
         facs: facs,
         impls: impls,
     };
-    Reached {
+    SessionEnd {
         answer: if l.fits { 0 } else { 22 },
         len: l.len,
         book: book,

@@ -7,8 +7,10 @@ use lib.ListN.{length}
 use Prim.Native.Nat.{_-_}
 use Rattle.listing.specs.RoomLaws.{partly-keeps}
 use Rattle.states.specs.State.{Ready, stateOf}
+use denote.Ref.{now}
+use Rattle.seqs.specs.RestLaws.{rest-is}
 use Rattle.svcd.specs.Reached.{Running}
-use Rattle.svcd.specs.ReachedLaws.{ran, step-fits, running-less, running-on, running-start}
+use Rattle.svcd.specs.ReachedLaws.{on-rest, ran, step-fits, running-less, running-on, running-start}
 
 abbrev Inv-loop : tie.InvT-loop
 Inv-loop sets₀ numbers₀ comps₀ vers₀ facs₀ impls₀ text out₀ room₀ at₀ i₀ sets numbers comps vers facs impls out room at i =
@@ -21,23 +23,35 @@ abbrev μ-loop : tie.MeasureT-loop
 loop-holds : tie.Need-loop-holds Inv-loop μ-loop
 loop-holds c = (c .before .before .pre .0, running-start _ _ _ (c .before .before .pre .1))
 
+sub-rest : tie.Need-sub-rest Inv-loop μ-loop
+sub-rest c = c .loop .inv .1 .inside
+
+part-rest-start : tie.Need-part-rest-start Inv-loop μ-loop
+part-rest-start c = c .loop .inv .1 .inside
+
+part-rest-end : tie.Need-part-rest-end Inv-loop μ-loop
+part-rest-end c = search needs
+
 step-requires : tie.Need-step-requires Inv-loop μ-loop
-step-requires c κs = (c .before .before .before .before .before .before .before .loop .inv .0, c .before .before .before .before .before .before .before .loop .inv .1 .inside)
+step-requires c κs = c .before .before .before .before .before .before .before .before .loop .inv .0
 
 same-length : tie.Need-same-length Inv-loop μ-loop
-same-length c = c .before .before .before .before .before .step .ensures .1 .puts .keeps ∙ partly-keeps (c .before .before .before .before .before .before .before .before .before .before .before .before .before .loop .inv .1 .listing)
+same-length c = c .before .before .before .before .before .step .ensures .1 .puts .keeps ∙ partly-keeps (c .before .before .before .before .before .before .before .before .before .before .before .before .before .before .loop .inv .1 .listing)
 
 returns : tie.Need-returns Inv-loop μ-loop
-returns c = (c .before .before .before .before .before .step .ensures .0, ran (c .before .before .before .before .before .before .before .before .before .before .before .before .before .loop .inv .1) (c .before .before .before .before .before .step .ensures .1) (c .before .if1 .taken))
+returns c = (c .before .before .before .before .before .step .ensures .0, ran (c .before .before .before .before .before .before .before .before .before .before .before .before .before .before .loop .inv .1) (on-rest (rest-is (now (c .before .before .before .before .before .before .before .before .before .before .before .before .before .before .before .before .before .args .text)) (c .before .before .before .before .before .before .before .before .before .before .before .before .before .before .loop .at)) (c .before .before .before .before .before .step .ensures .1)) (c .before .if1 .taken))
+
+add-at : tie.Need-add-at Inv-loop μ-loop
+add-at c = let f = step-fits (c .before .before .before .before .before .before .before .before .before .before .before .before .before .before .before .loop .inv .1) (on-rest (rest-is (now (c .before .before .before .before .before .before .before .before .before .before .before .before .before .before .before .before .before .before .args .text)) (c .before .before .before .before .before .before .before .before .before .before .before .before .before .before .before .loop .at)) (c .before .before .before .before .before .before .step .ensures .1)) (c .before .before .if1 .left) (c .before .before .before .before .before .before .before .before .before .before .before .before .before .before .before .before .before .before .good .1 .1 .1 .1 .1 .1 .0 .1) .0 in omega (arith, f)
 
 add-i : tie.Need-add-i Inv-loop μ-loop
-add-i c = let f = step-fits (c .before .before .before .before .before .before .before .before .before .before .before .before .before .loop .inv .1) (c .before .before .before .before .before .step .ensures .1) (c .before .if1 .left) (c .before .before .before .before .before .before .before .before .before .before .before .before .before .before .before .before .good .1 .1 .1 .1 .1 .1 .0 .1) in omega (arith, f)
+add-i c = let f = step-fits (c .before .before .before .before .before .before .before .before .before .before .before .before .before .before .before .loop .inv .1) (on-rest (rest-is (now (c .before .before .before .before .before .before .before .before .before .before .before .before .before .before .before .before .before .before .args .text)) (c .before .before .before .before .before .before .before .before .before .before .before .before .before .before .before .loop .at)) (c .before .before .before .before .before .before .step .ensures .1)) (c .before .before .if1 .left) (c .before .before .before .before .before .before .before .before .before .before .before .before .before .before .before .before .before .before .good .1 .1 .1 .1 .1 .1 .0 .1) .1 in omega (arith, f)
 
 loop-less : tie.Need-loop-less Inv-loop μ-loop
-loop-less c = running-less (c .before .before .before .before .before .before .before .before .before .before .before .before .before .loop .inv .1) (c .before .before .before .before .before .step .ensures .1) (c .before .if1 .left)
+loop-less c = running-less (c .before .before .before .before .before .before .before .before .before .before .before .before .before .before .before .loop .inv .1) (on-rest (rest-is (now (c .before .before .before .before .before .before .before .before .before .before .before .before .before .before .before .before .before .before .args .text)) (c .before .before .before .before .before .before .before .before .before .before .before .before .before .before .before .loop .at)) (c .before .before .before .before .before .before .step .ensures .1)) (c .before .before .if1 .left)
 
 loop-again : tie.Need-loop-again Inv-loop μ-loop
-loop-again c = (c .before .before .before .before .before .step .ensures .0, running-on (c .before .before .before .before .before .before .before .before .before .before .before .before .before .loop .inv .1) (c .before .before .before .before .before .step .ensures .1) (c .before .if1 .left))
+loop-again c = (c .before .before .before .before .before .before .step .ensures .0, running-on (c .before .before .before .before .before .before .before .before .before .before .before .before .before .before .before .loop .inv .1) (on-rest (rest-is (now (c .before .before .before .before .before .before .before .before .before .before .before .before .before .before .before .before .before .before .args .text)) (c .before .before .before .before .before .before .before .before .before .before .before .before .before .before .before .loop .at)) (c .before .before .before .before .before .before .step .ensures .1)) (c .before .before .if1 .left))
 
 pub run-spec : {M : Type 1} → statement M
 run-spec =
@@ -46,9 +60,13 @@ run-spec =
     Inv-loop
     μ-loop
     loop-holds
+    sub-rest
+    part-rest-start
+    part-rest-end
     step-requires
     same-length
     returns
+    add-at
     add-i
     loop-less
     loop-again)

@@ -1,0 +1,3 @@
+pub mod Refused
+pub mod Sessions
+pub mod ReadBack

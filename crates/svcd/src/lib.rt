@@ -153,6 +153,9 @@ pub fn session(text: &[u8], out: &mut [u8]) -> SessionEnd
 // "a text or slice beyond 2,147,483,647 bytes"
 const MOST_BYTES: usize = 2147483647;
 
+// "gets the listing's length, or minus 22"
+const MINUS_22: i32 = -22;
+
 // The session for a host in C: the listing's length, or minus 22.
 #[no_mangle]
 pub extern "C" fn svcd_session(text: &[u8], out: &mut [u8]) -> i32
@@ -161,11 +164,11 @@ pub extern "C" fn svcd_session(text: &[u8], out: &mut [u8]) -> i32
 {
     if MOST_BYTES < text.len() {
         seqs::clear(out);
-        return -22;
+        return MINUS_22;
     }
     if MOST_BYTES < out.len() {
         seqs::clear(out);
-        return -22;
+        return MINUS_22;
     }
     let mut sets = [0; 576];
     let mut numbers = [0; 8768];
@@ -184,7 +187,7 @@ pub extern "C" fn svcd_session(text: &[u8], out: &mut [u8]) -> i32
         out,
     );
     if !l.fits {
-        return -22;
+        return MINUS_22;
     }
     l.len as i32
 }

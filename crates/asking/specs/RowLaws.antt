@@ -9,15 +9,13 @@ use lib.Seq.{drop-cons, getD-take, length-take-le}
 use Rattle.listing.specs.Room.{Puts}
 use Rattle.listing.specs.RoomLaws.{Partly, if-asked, if-not-asked, partly-as, partly-end, partly-more, partly-start, puts-as, puts-then}
 use Rattle.listing.specs.Written.{pairOf}
-use Rattle.listing.specs.WrittenLaws.{pair-row-as, row-as}
+use Rattle.listing.specs.WrittenLaws.{row-as}
 use Rattle.listing.specs.declared.Room.{Room}
-use Rattle.model.specs.Book.{components, versions}
 use Rattle.model.specs.Lists.{from, keep, rising}
-use Rattle.names.specs.Stored.{tableOf}
 use Rattle.queries.specs.Replied.{numbersIn}
 use Rattle.sets.specs.Sets.{bit}
 use Rattle.sets.specs.Tests.{if_then_else_}
-use Rattle.text.specs.Bytes.{Text, bytes}
+use Rattle.text.specs.Bytes.{Text}
 use Rattle.text.specs.Session.{decimal, row}
 use Rattle.text.specs.Tables.{Table, joined, nameAt}
 use Rattle.asking.specs.Rows.{answerRows, namesIn, pairIn, pairsIn, rowsOf}

@@ -11,11 +11,9 @@ use Rattle.handed.specs.Answered.{TextCall, handed}
 use Rattle.handed.specs.Demand.{answered-named, answered-text, written-reads-back}
 use Rattle.handed.specs.Demand as demand
 use Rattle.handed.specs.declared.Text as called
-use Rattle.states.specs.State.{stateOf}
 use Rattle.svcd.specs.Reached.{SessionCall, stateIn}
 use Rattle.svcd.specs.declared.SessionEnd.{SessionEnd}
 use Rattle.text.specs.Bytes.{Text}
-use Rattle.text.specs.LentSlice.{stateAfter}
 use Rattle.text.specs.SameByNames.{Same, accepted, textOf}
 use Rattle.text.specs.Session.{State, fresh, session, sessionFrom}
 use Rattle.text.specs.Written.{asCommands}

@@ -3,25 +3,23 @@
 use mathlib.Core.Bool.{true}
 use mathlib.Core.List.{List, [], _++_}
 use mathlib.Core.Logic.{inl, inr}
-use mathlib.Core.Path.{_∙_, _≡_, ap, subst, sym}
+use mathlib.Core.Path.{_∙_, _≡_, subst, sym}
 use Prim.Native.Nat.{_<_, _≤_, ℕ}
 use native.Mathlib.Omega.{arith}
 use lib.ListN.{drop, length, replicate}
-use Rattle.handed.specs.Answered.{TextCall, handed, passesNamed, textAnswer}
+use Rattle.handed.specs.Answered.{handed, passesNamed}
 use Rattle.handed.specs.Demand.{named-test}
-use Rattle.handed.specs.declared.Text as written-text
 use Rattle.model.specs.Book.{hasVersion}
 use Rattle.rules.specs.TestLaws.{passes-proper}
 use Rattle.sets.specs.TestLaws.{bool?, fails, if-false, if-true, ≤?-in, ≤?-out}
-use Rattle.sets.specs.Tests.{_≤?_, if_then_else_}
+use Rattle.sets.specs.Tests.{_≤?_}
 use Rattle.states.specs.State.{stateOf}
 use Rattle.svcd.specs.Reached.{SessionCall, answerOf, lengthOf, stateIn}
 use Rattle.svcd.specs.declared.SessionEnd.{SessionEnd}
 use Rattle.text.specs.Bytes.{Text}
 use Rattle.text.specs.Handed.{PassesNamed}
 use Rattle.text.specs.LentSlice.{fitsIn, listingIn, sliceAfter, stateAfter}
-use Rattle.text.specs.SameByNames.{textOf}
-use Rattle.text.specs.Session.{State, fresh, session, sessionFrom}
+use Rattle.text.specs.Session.{fresh, session, sessionFrom}
 use Rattle.text_theorems.specs.SessionPasses.{session-passes, states-pass}
 use Rattle.theorems.specs.PartsRight.{PartsRight}
 use Rattle.theorems.specs.Sequence.{passes-parts}

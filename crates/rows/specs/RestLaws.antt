@@ -2,11 +2,10 @@
 use mathlib.Core.Bool.{Bool, false, not, true}
 use mathlib.Core.List.{List, _++_, append-assoc}
 use mathlib.Core.Logic.{inl, inr}
-use mathlib.Core.Path.{_∙_, _≡_, ap, refl, subst, sym}
-use Prim.Native.Nat.{_+_, _-_, _<_, _≤_, ℕ}
-use native.Mathlib.Nat.{sub-zero}
+use mathlib.Core.Path.{_∙_, _≡_, ap, sym}
+use Prim.Native.Nat.{_+_, _-_, _≤_, ℕ}
 use native.Mathlib.Omega.{arith}
-use borrow.Author.Tests.{not-false, not-true}
+use borrow.Author.Tests.{not-false}
 use lib.ListN.{drop, length, length-append, length-drop, take}
 use lib.Seq.{length-take-le}
 use Rattle.listing.specs.Room.{Puts, writtenIn}
@@ -17,7 +16,7 @@ use Rattle.seqs.specs.Filled.{filled}
 use Rattle.seqs.specs.FilledLaws.{filled-length}
 use Rattle.seqs.specs.RestLaws.{rest-back, rest-filled, rest-is}
 use Rattle.sets.specs.TestLaws.{and-l, and-r, and-true, bool?, clash, if-false, if-true, ≤?-in, ≤?-out}
-use Rattle.sets.specs.Tests.{_&_, _≤?_, if_then_else_}
+use Rattle.sets.specs.Tests.{_&_, _≤?_}
 use Rattle.text.specs.Bytes.{Text}
 
 -- the room that a row leaves

@@ -1,14 +1,13 @@
 -- What the program prints, whether text and listing fit or not.
-use mathlib.Core.Bool.{Bool, false, true}
 use mathlib.Core.List.{List, [], _++_, _∷_}
 use mathlib.Core.Logic.{inl, inr}
-use mathlib.Core.Path.{_∙_, _≡_, ap, refl, sym}
+use mathlib.Core.Path.{_∙_, _≡_, ap, sym}
 use Prim.Native.Nat.{_<_, _≤_, ℕ}
 use native.Mathlib.Omega.{arith}
 use lib.ListN.{drop, length, length-append, take}
 use lib.Seq.{take-append-seam}
-use Rattle.sets.specs.TestLaws.{and-false, and-true, bool?, clash, fails, if-false, if-true, ≤?-in, ≤?-out}
-use Rattle.sets.specs.Tests.{_&_, _≤?_, if_then_else_}
+use Rattle.sets.specs.TestLaws.{and-false, and-true, bool?, fails, if-false, if-true, ≤?-in, ≤?-out}
+use Rattle.sets.specs.Tests.{_&_, _≤?_}
 use Rattle.svcd.specs.Reached.{answerOf, lengthOf}
 use Rattle.text.specs.Bytes.{Text, bytes}
 use Rattle.text.specs.LentSlice.{fitsIn, listingIn, prints, programBytes, sliceAfter}

@@ -7,7 +7,7 @@ use Rattle.listing.specs.Room.{Puts}
 use Rattle.listing.specs.declared.Room.{Room}
 use Rattle.text.specs.Bytes.{Text}
 use Rattle.text.specs.Language.{Said}
-use Rattle.text.specs.Session.{Result, State, afterwards, carry, decided, decimal, lines, row}
+use Rattle.text.specs.Session.{State, afterwards, decided, decimal, lines, row}
 use Rattle.states.specs.Carried.{Carried, Decides}
 
 decided-lines : (i a : ℕ) (s : State) → lines i (decided a s) ≡ row i (decimal a)

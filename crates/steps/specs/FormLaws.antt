@@ -9,7 +9,7 @@ use Rattle.language.specs.Readers.{Answers}
 use Rattle.sets.specs.TestLaws.{clash}
 use Rattle.sets.specs.Tests.{_&_, _==_, if_then_else_}
 use Rattle.text.specs.Bytes.{Text, bytes, keywords, same}
-use Rattle.text.specs.Language.{Read, Said, byWord, grammar, readAs}
+use Rattle.text.specs.Language.{Said, byWord, grammar, readAs}
 use Rattle.text.specs.Tables.{nameAt}
 use Rattle.steps.specs.Forms.{commandOf, formOf, forms, queryOf, readerOf}
 use Rattle.steps.specs.declared.Command.{Command}

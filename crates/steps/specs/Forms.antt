@@ -3,7 +3,7 @@ use mathlib.Core.List.{List, [], _∷_}
 use Prim.Native.Nat.{ℕ}
 use lib.ListN.{getD}
 use mathlib.Core.Option.{none}
-use Rattle.text.specs.Language.{CHOICE, DELMOD, DELMODVAR, DELSPEC, DELSYS, DELSYSVAR, NEEDS, OUT, PARTS, Reader, STANDARD, SUPPLIES, Said, UNDEFINED}
+use Rattle.text.specs.Language.{DELMOD, DELMODVAR, DELSPEC, DELSYS, DELSYSVAR, NEEDS, OUT, PARTS, Reader, STANDARD, SUPPLIES, Said, UNDEFINED}
 use Rattle.text.specs.Language.{UNUSED, WHEREUSED, add-mod, add-modvar, add-spec, add-sys, add-sysvar, choice, give, ofOne, ofPair}
 use Rattle.steps.specs.declared.Command.{Command}
 use Rattle.steps.specs.declared.Command.the-variants.{AddMod, AddModvar, AddSpec, AddSys, AddSysvar, DelMod, DelModvar, DelSpec, DelSys, DelSysvar}

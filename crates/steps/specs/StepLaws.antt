@@ -8,7 +8,7 @@ use native.Mathlib.Nat.{le-refl}
 use native.Mathlib.Omega.{arith}
 use borrow.Author.Tests.{not-false, not-true}
 use lib.ListN.{drop, length, length-drop}
-use Rattle.language.specs.Readers.{Answers, Got}
+use Rattle.language.specs.Readers.{Answers}
 use Rattle.language.specs.Words.{CommandAt}
 use Rattle.listing.specs.Room.{Puts}
 use Rattle.listing.specs.RoomLaws.{puts-none}
@@ -19,7 +19,7 @@ use Rattle.states.specs.Carried.{Carried, Decides, Unread}
 use Rattle.states.specs.CarriedLaws.{decides-carried}
 use Rattle.text.specs.Bytes.{Text}
 use Rattle.text.specs.Language.{Read, Reader, Said, command, give, over, readAs, said, wrong}
-use Rattle.text.specs.Session.{State, afterwards, carry, decimal, lines, onRead, row, sessionFrom}
+use Rattle.text.specs.Session.{State, carry, decimal, lines, onRead, row, sessionFrom}
 use Rattle.text_theorems.specs.Bounds.{session-step}
 use Rattle.text_theorems.specs.Left.{left-length}
 use Rattle.text_theorems.specs.Takes.{LeftR, command-left}

@@ -1,15 +1,15 @@
 -- What a session leaves, whether its listing fits the slice or not; and the state that it begins with.
 use mathlib.Core.Bool.{Bool, false, not, true}
-use mathlib.Core.List.{List, [], _++_}
+use mathlib.Core.List.{List, _++_}
 use mathlib.Core.Logic.{inl, inr}
-use mathlib.Core.Path.{_∙_, _≡_, ap, ap₂, refl, subst, sym}
+use mathlib.Core.Path.{_∙_, _≡_, ap, ap₂, refl, sym}
 use Prim.Native.Nat.{_*_, _+_, _-_, _<_, _≤_, ℕ}
 use native.Mathlib.Nat.{le-refl, sub-self}
 use native.Mathlib.Omega.{arith}
 use borrow.Author.Tests.{not-false, not-true}
-use lib.IntN.{negsuc, pos, ℤ}
-use lib.ListN.{drop, getD-replicate, length, length-replicate, replicate, take}
-use Rattle.book.specs.Plain.{plainOf, specsOf}
+use lib.IntN.{negsuc, pos}
+use lib.ListN.{getD-replicate, length, length-replicate, replicate, take}
+use Rattle.book.specs.Plain.{plainOf}
 use Rattle.book.specs.Readers.{fresh-plain}
 use Rattle.language.specs.Entering.{Kept}
 use Rattle.listing.specs.Room.{writtenIn}
@@ -17,20 +17,19 @@ use Rattle.listing.specs.declared.Room.{Room}
 use Rattle.model.specs.Book.{Book, empty, specified}
 use Rattle.model.specs.Maps.{isSome}
 use Rattle.model.specs.Lists.{every, nonEmpty}
-use Rattle.names.specs.Stored.{tableOf, tablesOf}
 use Rattle.names.specs.StoredLaws.{no-names, zeros-empty}
 use Rattle.rules.specs.Test as test
 use Rattle.rules.specs.RuleLaws.{unspecified}
 use Rattle.rules.specs.TestLaws.{none-passes}
-use Rattle.sets.specs.TestLaws.{and-false, all-in, and-true, bool?, fails, if-false, if-true, not-in, ≤?-in, ≤?-out}
-use Rattle.sets.specs.Tests.{_&_, _≤?_, if_then_else_, ~_}
+use Rattle.sets.specs.TestLaws.{and-false, all-in, and-true, bool?, fails, if-false, if-true, ≤?-in, ≤?-out}
+use Rattle.sets.specs.Tests.{_≤?_, ~_}
 use Rattle.seqs.specs.Filled.{filled}
 use Rattle.seqs.specs.FilledLaws.{filled-length}
 use Rattle.states.specs.State.{Ready, stateOf}
 use Rattle.text.specs.Bytes.{Text}
 use Rattle.text.specs.LentSlice.{fitsIn, hostFits, hostResult, hostSlice, listingIn, mostBytes, sliceAfter, stateAfter}
 use Rattle.text.specs.Session.{State, fresh, session}
-use Rattle.text.specs.Tables.{Table, Tables, noNames}
+use Rattle.text.specs.Tables.{Tables}
 use Rattle.svcd.specs.Reached.{Leaves, Ran, SessionCall, answerOf, lengthOf, stateIn}
 
 -- ---- the listing

@@ -1,14 +1,14 @@
 -- A session as a loop of steps.
 use mathlib.Core.Bool.{Bool, false, true}
 use mathlib.Core.Bool.{not as notᵇ}
-use mathlib.Core.List.{List, [], _++_, append-nil}
+use mathlib.Core.List.{List, _++_, append-nil}
 use mathlib.Core.Path.{_∙_, _≡_, ap, ap₂, subst, sym}
 use Prim.Native.Nat.{_*_, _+_, _-_, _<_, _≤_, suc, zero-le, ℕ}
 use native.Mathlib.Omega.{arith}
 use borrow.Author.Tests.{not-false, not-true}
 use lib.ListN.{drop, length, length-drop}
 use lib.Seq.{drop-drop}
-use Rattle.listing.specs.RoomLaws.{Partly, partly-as, partly-end, partly-more, partly-start}
+use Rattle.listing.specs.RoomLaws.{partly-as, partly-end, partly-more, partly-start}
 use Rattle.listing.specs.declared.Room.{Room}
 use Rattle.text.specs.Bytes.{Text}
 use Rattle.text.specs.Session.{State, fresh, session}

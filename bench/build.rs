@@ -1,8 +1,10 @@
-//! Links the static library of crate `test_host`, which `rt staticlib test_host` writes.
+//! Links the static libraries of the crates `test_host` and `svcd`, which `rt staticlib` writes.
 
 fn main() {
     let here = std::env::var("CARGO_MANIFEST_DIR").expect("cargo says where the package is");
     println!("cargo:rustc-link-search=native={here}/../target/staticlib");
-    println!("cargo:rustc-link-lib=static=test_host");
-    println!("cargo:rerun-if-changed={here}/../target/staticlib/libtest_host.a");
+    for library in ["test_host", "svcd"] {
+        println!("cargo:rustc-link-lib=static={library}");
+        println!("cargo:rerun-if-changed={here}/../target/staticlib/lib{library}.a");
+    }
 }

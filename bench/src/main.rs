@@ -1,10 +1,11 @@
-//! The test for 25, the ten commands and the parts list: the proved ones beside those that use std collections, in the
-//! same run.
+//! The test for 25, the ten commands, the parts list and whole sessions: the proved ones beside those that use std
+//! collections, in the same run.
 
 mod books;
 mod cases;
 mod host;
 mod raw;
+mod sessions;
 mod stack;
 mod timing;
 
@@ -98,7 +99,8 @@ fn parts_line(name: &str, book: &Book, pair: Pair) {
     println!("| {name} | {} | {us:.2} | {them:.2} | {ratio:.2} | {used} |", rows.len());
 }
 
-fn main() {
+/// Single calls on Books made here.
+fn single_calls() {
     println!("bytes of a Book: {}", std::mem::size_of::<Raw>());
     println!();
     println!("| test for 25 | proved, ns | std, ns | std / proved | stack, bytes |");
@@ -117,4 +119,12 @@ fn main() {
     parts_line("deep", &books::layered(&[0]), (31, 0));
     parts_line("full", &books::layered(&VERSIONS), (31, 7));
     parts_line("mixed", &books::mixed(), (31, 7));
+    println!();
+}
+
+fn main() {
+    if std::env::args().nth(1).as_deref() != Some("sessions") {
+        single_calls();
+    }
+    sessions::table();
 }

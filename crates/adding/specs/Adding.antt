@@ -3,18 +3,11 @@ use mathlib.Core.Bool.{Bool, true}
 use mathlib.Core.List.{List}
 use mathlib.Core.Path.{_≡_}
 use Prim.Native.Nat.{ℕ}
-use Rattle.commands.specs.declared.Outcome.{Outcome}
 use Rattle.model.specs.Commands.{Command}
 use Rattle.states.specs.declared.Decision.{Decision}
 use Rattle.text.specs.Language.{Said}
 use Rattle.text.specs.Session.{State, add, carry}
 use Rattle.text.specs.Tables.{Tables, entered, fits}
-
--- the outcome o is answered with a, and its Book is kept in the arrays if it was accepted; else they stay
-pub record Keeps (o : Outcome) (s n : List ℕ) (a : ℕ) (s′ n′ : List ℕ) : Type 0 where
-  pub answer-is : a ≡ o .answer
-  pub accepted : a ≡ 0 → (s′ ≡ o .book .sets) × (n′ ≡ o .book .numbers)
-  pub refused : (a ≡ 0 → ⊥) → (s′ ≡ s) × (n′ ≡ n)
 
 -- The adding command x, as it was read with the tables t before it: `room` says whether there is a place for each new name; and if there
 -- is, t′ is the tables with them, and P holds of the command by its numbers in these.

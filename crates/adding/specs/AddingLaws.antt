@@ -9,7 +9,6 @@ use borrow.Author.Tests.{not-false, not-true}
 use Rattle.book.specs.Plain.{plainOf}
 use Rattle.commands.specs.Demand.{step-right}
 use Rattle.commands.specs.Outcome.{Called}
-use Rattle.commands.specs.declared.Outcome.{Outcome}
 use Rattle.language.specs.Entering.{Kept}
 use Rattle.language.specs.Readers.{Answers}
 use Rattle.language.specs.ProductionLaws.{at-end}
@@ -28,16 +27,9 @@ use Rattle.text.specs.Bytes.{Text}
 use Rattle.text.specs.Language.{Reader, Said}
 use Rattle.text.specs.Session.{State, add, carry, decided, told}
 use Rattle.text.specs.Tables.{Tables}
-use Rattle.adding.specs.Adding.{Adds, Keeps, Unasked}
+use Rattle.adding.specs.Adding.{Adds, Unasked}
 
--- ---- the ways out of keep and unasked
-
-module _ (o : Outcome) (s n : List ℕ) where
-  pub keeps-refused : o .answer ≢ 0 → Keeps o s n (o .answer) s n
-  keeps-refused h = record { answer-is = refl; accepted = λ e. absurd (h e); refused = λ _. (refl, refl) }
-
-  pub keeps-accepted : o .answer ≡ 0 → Keeps o s n (o .answer) (o .book .sets) (o .book .numbers)
-  keeps-accepted e = record { answer-is = refl; accepted = λ _. (refl, refl); refused = λ h. absurd (h e) }
+-- ---- the ways out of unasked
 
 pub unasked-unread : (at e : ℕ) (there : Bool) → notᵇ there ≡ true → Unasked there e (record { there = false; end = at; answer = 0 })
 unasked-unread at e there h =
@@ -46,18 +38,6 @@ unasked-unread at e there h =
 
 pub unasked-no-place : (e : ℕ) (there : Bool) → notᵇ there ≡ false → Unasked there e (record { there = true; end = e; answer = 24 })
 unasked-no-place e there h = record { there-is = sym (not-false there h); end-is = λ _. refl; answer-is = λ _. refl }
-
--- what was called and kept was called
-pub called-kept : (s n : List ℕ) (k : Command) (o : Outcome) (a : ℕ) (s′ n′ : List ℕ)
-    → Called s n k (o .answer) (o .book .sets) (o .book .numbers) → Keeps o s n a s′ n′ → Called s n k a s′ n′
-called-kept s n k o a s′ n′ c w = record {
-  answer-is = w .answer-is ∙ c .answer-is;
-  refused = w .refused;
-  accepted = λ e.
-      (let q = w .accepted e in
-      let h = c .accepted (sym (w .answer-is) ∙ e) in
-      (ap₂ plainOf (q .0) (q .1) ∙ h .0, ap₂ passes (q .0) (q .1) ∙ h .1));
-}
 
 -- ---- a command that was asked its questions
 

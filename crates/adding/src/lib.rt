@@ -12,9 +12,7 @@ ghost use Rattle.rules.specs.Test as test;
 ghost use Rattle.states.specs.Carried.{Decides};
 ghost use Rattle.states.specs.State.{Ready, stateOf};
 ghost use Rattle.text.specs.Language.{add-mod, add-modvar, add-spec, add-sys, add-sysvar};
-ghost use Rattle.adding.specs.Adding.{Keeps, Unasked};
-use book::Book;
-use commands::Outcome;
+ghost use Rattle.adding.specs.Adding.{Unasked};
 use language::ModRequest;
 use language::ModvarRequest;
 use language::SpecRequest;
@@ -25,112 +23,53 @@ use states::Decision;
 // "Adding commands: is there a place for each new name? no: 24."
 const NO_PLACE: usize = 24;
 
-// The answer of a command. The Book is kept in the arrays if it was accepted; else they stay as they are.
-fn keep(sets: &mut [u64; 576], numbers: &mut [u8; 8768], o: Outcome) -> usize
-    ensures { λ r. ⌜ Keeps o (now (sets .entry)) (now (numbers .entry)) r (now (sets .exit)) (now (numbers .exit)) ⌝ }
-{
-    let answer = o.answer as usize;
-    if answer != 0 {
-        return answer;
-    }
-    let b = o.book;
-    let s = b.sets;
-    let n = b.numbers;
-    *sets = s;
-    *numbers = n;
-    answer
-}
-
 // ---- a request on the Book in the arrays: the answer, and the Book after it if it is accepted
 
 fn answer_spec(sets: &mut [u64; 576], numbers: &mut [u8; 8768], r: SpecRequest) -> usize
     requires { ⌜ test.passes (now sets) (now numbers) ≡ true ⌝ }
     ensures { λ a. ⌜ ((k : Command) → SpecAsks k r → Called (now (sets .entry)) (now (numbers .entry)) k a (now (sets .exit)) (now (numbers .exit))) ⌝ }
 {
-    let s = *sets;
-    let n = *numbers;
     let versions = r.versions;
-    let b = Book {
-        sets: s,
-        numbers: n,
-    };
-    keep(
-        sets,
-        numbers,
-        commands::add_spec_in(b, r.component, r.provided, versions, r.standard),
-    )
+    commands::add_spec_in(sets, numbers, r.component, r.provided, versions, r.standard) as usize
 }
 
 fn answer_mod(sets: &mut [u64; 576], numbers: &mut [u8; 8768], r: ModRequest) -> usize
     requires { ⌜ test.passes (now sets) (now numbers) ≡ true ⌝ }
     ensures { λ a. ⌜ ((k : Command) → ModAsks k r → Called (now (sets .entry)) (now (numbers .entry)) k a (now (sets .exit)) (now (numbers .exit))) ⌝ }
 {
-    let s = *sets;
-    let n = *numbers;
     let versions = r.versions;
-    let b = Book {
-        sets: s,
-        numbers: n,
-    };
-    keep(
-        sets,
-        numbers,
-        commands::add_mod_in(b, r.component, versions),
-    )
+    commands::add_mod_in(sets, numbers, r.component, versions) as usize
 }
 
 fn answer_sys(sets: &mut [u64; 576], numbers: &mut [u8; 8768], r: SysRequest) -> usize
     requires { ⌜ test.passes (now sets) (now numbers) ≡ true ⌝ }
     ensures { λ a. ⌜ ((k : Command) → SysAsks k r → Called (now (sets .entry)) (now (numbers .entry)) k a (now (sets .exit)) (now (numbers .exit))) ⌝ }
 {
-    let s = *sets;
-    let n = *numbers;
     let usable = r.usable;
     let versions = r.versions;
-    let b = Book {
-        sets: s,
-        numbers: n,
-    };
-    keep(
-        sets,
-        numbers,
-        commands::add_sys_in(b, r.component, usable, versions),
-    )
+    commands::add_sys_in(sets, numbers, r.component, usable, versions) as usize
 }
 
 fn answer_modvar(sets: &mut [u64; 576], numbers: &mut [u8; 8768], r: ModvarRequest) -> usize
     requires { ⌜ test.passes (now sets) (now numbers) ≡ true ⌝ }
     ensures { λ a. ⌜ ((k : Command) → ModvarAsks k r → Called (now (sets .entry)) (now (numbers .entry)) k a (now (sets .exit)) (now (numbers .exit))) ⌝ }
 {
-    let s = *sets;
-    let n = *numbers;
-    let b = Book {
-        sets: s,
-        numbers: n,
-    };
-    keep(
+    commands::add_modvar_in(
         sets,
         numbers,
-        commands::add_modvar_in(b, r.component, r.version, r.required, r.implementation),
-    )
+        r.component,
+        r.version,
+        r.required,
+        r.implementation,
+    ) as usize
 }
 
 fn answer_sysvar(sets: &mut [u64; 576], numbers: &mut [u8; 8768], r: SysvarRequest) -> usize
     requires { ⌜ test.passes (now sets) (now numbers) ≡ true ⌝ }
     ensures { λ a. ⌜ ((k : Command) → SysvarAsks k r → Called (now (sets .entry)) (now (numbers .entry)) k a (now (sets .exit)) (now (numbers .exit))) ⌝ }
 {
-    let s = *sets;
-    let n = *numbers;
     let composition = r.composition;
-    let b = Book {
-        sets: s,
-        numbers: n,
-    };
-    keep(
-        sets,
-        numbers,
-        commands::add_sysvar_in(b, r.component, r.version, composition),
-    )
+    commands::add_sysvar_in(sets, numbers, r.component, r.version, composition) as usize
 }
 
 // ---- the commands

@@ -238,6 +238,3 @@ module _ (s n given : List ℕ) (c : ℕ) (t : TakesDefinition s n c) (n′ : Li
     isProper = set-proper s n s n₂ c 2 c<₂ there₂ at₂ kind₂ (omega arith) refl standard₂ slots₂ (λ j l. refl) (t .isProper) (omega arith)
         (λ e. absurd (omega arith)) (λ e. absurd (omega arith));
   }
-
-  pub module-end : (s₂ : List ℕ) → s₂ ≡ s → Holds s₂ n₂ (withModule (plainOf s n) c (implementationsOf (specsOf s n) c given))
-  module-end s₂ e = rw e module-put

@@ -127,9 +127,6 @@ module _ (s n : List ℕ) (c q std : ℕ) (ls : length s ≡ 576) (t : TakesSpec
     }));
   }
 
-  pub blank-end : (s₂ : List ℕ) → s₂ ≡ s → Holds (set s₂ c q) n₁ (withSpec (plainOf s n) c (blank (bit q) std))
-  blank-end s₂ e = rw e blank-put
-
 -- ---- version by version
 
 -- a version more of a component that was put in

@@ -4,7 +4,7 @@ ghost use mathlib.Core.Path.{_≡_};
 ghost use mathlib.Core.Bool.{true, false};
 ghost use mathlib.Core.Option.{some};
 ghost use Prim.Native.Nat.{ℕ, _<_, _≤_, _^_};
-ghost use lib.ListN.{getD};
+ghost use lib.ListN.{getD, length};
 ghost use Rattle.sets.specs.Sets.{bit};
 ghost use Rattle.sets.specs.Tests.{all, count};
 ghost use Rattle.model.specs.Maps.{orElse};
@@ -362,6 +362,12 @@ pub fn is_proper<'a>(sets: &'a [u64; 576], numbers: &'a [u8; 8768]) -> bool
 
 // ---- writers
 
+// Of arrays behind references the prover does not know how long they are. Of arrays by value it does; nothing is left of this in the
+// compiled code.
+fn whole(sets: [u64; 576], numbers: [u8; 8768])
+    ensures { λ _. ⌜ (length sets ≡ 576) × (length numbers ≡ 8768) ⌝ }
+{}
+
 // A free place of component c.
 fn free_place<'a>(sets: &'a [u64; 576], numbers: &'a [u8; 8768], c: usize) -> usize
     requires { ⌜ HasRoom (now sets) (now numbers) c ⌝ }
@@ -386,173 +392,183 @@ fn put_row(numbers: &mut [u8; 8768], i: usize, rows: &[u8; 2048], v: usize)
 }
 
 // Version v of component c, which is not defined, is put in.
-fn put_version(b: Book, c: usize, v: usize, required: u64) -> Book
-    requires { ⌜ TakesVersion (b .sets) (b .numbers) c v ⌝ }
-    requires { ⌜ model.isDefined (plainOf (b .sets) (b .numbers) .modules) (plainOf (b .sets) (b .numbers) .systems) c ≡ false ⌝ }
-    ensures { λ r. ⌜ Holds (r .sets) (r .numbers) (withUndefined (plainOf (b .sets) (b .numbers)) c v (bit required)) ⌝ }
+fn put_version(sets: &mut [u64; 576], numbers: &mut [u8; 8768], c: usize, v: usize, required: u64)
+    requires { ⌜ TakesVersion (now sets) (now numbers) c v ⌝ }
+    requires { ⌜ model.isDefined (plainOf (now sets) (now numbers) .modules) (plainOf (now sets) (now numbers) .systems) c ≡ false ⌝ }
+    ensures { λ _. ⌜ Holds (now (sets .exit)) (now (numbers .exit)) (withUndefined (plainOf (now (sets .entry)) (now (numbers .entry))) c v (bit required)) ⌝ }
 {
-    let i = free_place(&b.sets, &b.numbers, c);
-    let mut n = b;
-    n.numbers[VERSION + i] = v as u8;
-    n.sets[REQUIRES + i] = required;
-    n
+    whole(*sets, *numbers);
+    let i = free_place(sets, numbers, c);
+    numbers[VERSION + i] = v as u8;
+    sets[REQUIRES + i] = required;
 }
 
 // Version v of module c is put in, with what it requires and its implementation.
-pub fn put_modvar(b: Book, c: usize, v: usize, required: u64, implementation: u8) -> Book
-    requires { ⌜ TakesVersion (b .sets) (b .numbers) c v ⌝ }
-    requires { ⌜ model.isModule (plainOf (b .sets) (b .numbers) .modules) c ≡ true ⌝ }
-    ensures { λ r. ⌜ Holds (r .sets) (r .numbers) (withModvar (plainOf (b .sets) (b .numbers)) c v (bit required) implementation) ⌝ }
+pub fn put_modvar(
+    sets: &mut [u64; 576],
+    numbers: &mut [u8; 8768],
+    c: usize,
+    v: usize,
+    required: u64,
+    implementation: u8,
+)
+    requires { ⌜ TakesVersion (now sets) (now numbers) c v ⌝ }
+    requires { ⌜ model.isModule (plainOf (now sets) (now numbers) .modules) c ≡ true ⌝ }
+    ensures { λ _. ⌜ Holds (now (sets .exit)) (now (numbers .exit)) (withModvar (plainOf (now (sets .entry)) (now (numbers .entry))) c v (bit required) implementation) ⌝ }
 {
-    let i = free_place(&b.sets, &b.numbers, c);
-    let mut n = b;
-    n.numbers[VERSION + i] = v as u8;
-    n.sets[REQUIRES + i] = required;
-    n.numbers[IMPLEMENTATION + i] = implementation;
-    n
+    whole(*sets, *numbers);
+    let i = free_place(sets, numbers, c);
+    numbers[VERSION + i] = v as u8;
+    sets[REQUIRES + i] = required;
+    numbers[IMPLEMENTATION + i] = implementation;
 }
 
 // Version v of system c is put in, with empty requirements and a composition: its members, with their versions in row v.
-pub fn put_sysvar(b: Book, c: usize, v: usize, members: u64, rows: &[u8; 2048]) -> Book
-    requires { ⌜ TakesVersion (b .sets) (b .numbers) c v ⌝ }
-    requires { ⌜ (model.isSystem (plainOf (b .sets) (b .numbers) .systems) c ≡ true) × (members < 2 ^ 32) ⌝ }
-    ensures { λ r. ⌜ Holds (r .sets) (r .numbers) (withSysvar (plainOf (b .sets) (b .numbers)) c v (rowOf members (now (rows .entry)) v)) ⌝ }
+pub fn put_sysvar(
+    sets: &mut [u64; 576],
+    numbers: &mut [u8; 8768],
+    c: usize,
+    v: usize,
+    members: u64,
+    rows: &[u8; 2048],
+)
+    requires { ⌜ TakesVersion (now sets) (now numbers) c v ⌝ }
+    requires { ⌜ (model.isSystem (plainOf (now sets) (now numbers) .systems) c ≡ true) × (members < 2 ^ 32) ⌝ }
+    ensures { λ _. ⌜ Holds (now (sets .exit)) (now (numbers .exit)) (withSysvar (plainOf (now (sets .entry)) (now (numbers .entry))) c v (rowOf members (now (rows .entry)) v)) ⌝ }
 {
-    let i = free_place(&b.sets, &b.numbers, c);
-    let mut n = b;
-    n.numbers[VERSION + i] = v as u8;
-    n.sets[REQUIRES + i] = 0;
-    n.sets[MEMBERS + i] = members;
-    put_row(&mut n.numbers, i, rows, v);
-    n
+    whole(*sets, *numbers);
+    let i = free_place(sets, numbers, c);
+    numbers[VERSION + i] = v as u8;
+    sets[REQUIRES + i] = 0;
+    sets[MEMBERS + i] = members;
+    put_row(numbers, i, rows, v);
 }
 
 // Version v of module c is taken out.
-pub fn take_modvar(b: Book, c: usize, v: usize) -> Book
-    requires { ⌜ HoldsVersion (b .sets) (b .numbers) c v ⌝ }
-    requires { ⌜ model.isModule (plainOf (b .sets) (b .numbers) .modules) c ≡ true ⌝ }
-    ensures { λ r. ⌜ Holds (r .sets) (r .numbers) (after (plainOf (b .sets) (b .numbers)) (DEL-MODVAR c v)) ⌝ }
+pub fn take_modvar(sets: &[u64; 576], numbers: &mut [u8; 8768], c: usize, v: usize)
+    requires { ⌜ HoldsVersion (now sets) (now numbers) c v ⌝ }
+    requires { ⌜ model.isModule (plainOf (now sets) (now numbers) .modules) c ≡ true ⌝ }
+    ensures { λ _. ⌜ Holds (now (sets .entry)) (now (numbers .exit)) (after (plainOf (now (sets .entry)) (now (numbers .entry))) (DEL-MODVAR c v)) ⌝ }
 {
-    let i = place_of(&b.numbers, c, v);
-    let mut n = b;
-    n.numbers[VERSION + i] = 64;
-    n
+    whole(*sets, *numbers);
+    let i = place_of(numbers, c, v);
+    numbers[VERSION + i] = 64;
 }
 
 // Version v of system c is taken out.
-pub fn take_sysvar(b: Book, c: usize, v: usize) -> Book
-    requires { ⌜ HoldsVersion (b .sets) (b .numbers) c v ⌝ }
-    requires { ⌜ model.isSystem (plainOf (b .sets) (b .numbers) .systems) c ≡ true ⌝ }
-    ensures { λ r. ⌜ Holds (r .sets) (r .numbers) (after (plainOf (b .sets) (b .numbers)) (DEL-SYSVAR c v)) ⌝ }
+pub fn take_sysvar(sets: &[u64; 576], numbers: &mut [u8; 8768], c: usize, v: usize)
+    requires { ⌜ HoldsVersion (now sets) (now numbers) c v ⌝ }
+    requires { ⌜ model.isSystem (plainOf (now sets) (now numbers) .systems) c ≡ true ⌝ }
+    ensures { λ _. ⌜ Holds (now (sets .entry)) (now (numbers .exit)) (after (plainOf (now (sets .entry)) (now (numbers .entry))) (DEL-SYSVAR c v)) ⌝ }
 {
-    let i = place_of(&b.numbers, c, v);
-    let mut left = b;
-    left.numbers[VERSION + i] = 64;
-    left
+    whole(*sets, *numbers);
+    let place = place_of(numbers, c, v);
+    numbers[VERSION + place] = 64;
 }
 
 // The specification of component c is taken out, and a definition too.
-pub fn take_spec(b: Book, c: usize) -> Book
-    requires { ⌜ (c < 32) × (proper (b .sets) (b .numbers) ≡ true) ⌝ }
-    ensures { λ r. ⌜ Holds (r .sets) (r .numbers) (after (plainOf (b .sets) (b .numbers)) (DEL-SPEC c)) ⌝ }
+pub fn take_spec(sets: &[u64; 576], numbers: &mut [u8; 8768], c: usize)
+    requires { ⌜ (c < 32) × (proper (now sets) (now numbers) ≡ true) ⌝ }
+    ensures { λ _. ⌜ Holds (now (sets .entry)) (now (numbers .exit)) (after (plainOf (now (sets .entry)) (now (numbers .entry))) (DEL-SPEC c)) ⌝ }
 {
-    let mut n = b;
-    n.numbers[c] = 0;
-    n
+    whole(*sets, *numbers);
+    numbers[c] = 0;
 }
 
 // The definition of module c is taken out.
-pub fn take_mod(b: Book, c: usize) -> Book
-    requires { ⌜ (c < 32) × (proper (b .sets) (b .numbers) ≡ true) ⌝ }
-    requires { ⌜ model.isModule (plainOf (b .sets) (b .numbers) .modules) c ≡ true ⌝ }
-    ensures { λ r. ⌜ Holds (r .sets) (r .numbers) (after (plainOf (b .sets) (b .numbers)) (DEL-MOD c)) ⌝ }
+pub fn take_mod(sets: &[u64; 576], numbers: &mut [u8; 8768], m: usize)
+    requires { ⌜ (m < 32) × (proper (now sets) (now numbers) ≡ true) ⌝ }
+    requires { ⌜ model.isModule (plainOf (now sets) (now numbers) .modules) m ≡ true ⌝ }
+    ensures { λ _. ⌜ Holds (now (sets .entry)) (now (numbers .exit)) (after (plainOf (now (sets .entry)) (now (numbers .entry))) (DEL-MOD m)) ⌝ }
 {
-    let mut rest = b;
-    rest.numbers[c] = 1;
-    rest
+    whole(*sets, *numbers);
+    numbers[m] = 1;
 }
 
-// The definition of system c is taken out.
-pub fn take_sys(b: Book, c: usize) -> Book
-    requires { ⌜ (c < 32) × (proper (b .sets) (b .numbers) ≡ true) ⌝ }
-    requires { ⌜ model.isSystem (plainOf (b .sets) (b .numbers) .systems) c ≡ true ⌝ }
-    ensures { λ r. ⌜ Holds (r .sets) (r .numbers) (after (plainOf (b .sets) (b .numbers)) (DEL-SYS c)) ⌝ }
+// The definition of system s is taken out.
+pub fn take_sys(sets: &[u64; 576], numbers: &mut [u8; 8768], s: usize)
+    requires { ⌜ (s < 32) × (proper (now sets) (now numbers) ≡ true) ⌝ }
+    requires { ⌜ model.isSystem (plainOf (now sets) (now numbers) .systems) s ≡ true ⌝ }
+    ensures { λ _. ⌜ Holds (now (sets .entry)) (now (numbers .exit)) (after (plainOf (now (sets .entry)) (now (numbers .entry))) (DEL-SYS s)) ⌝ }
 {
-    let mut left = b;
-    left.numbers[c] = 1;
-    left
+    whole(*sets, *numbers);
+    numbers[s] = 1;
 }
 
 // Component c is defined as a module: its version v gets the implementation at v.
-pub fn put_mod(b: Book, c: usize, implementations: &[u8; 64]) -> Book
-    requires { ⌜ TakesDefinition (b .sets) (b .numbers) c ⌝ }
-    ensures { λ r. ⌜ Holds (r .sets) (r .numbers) (withModule (plainOf (b .sets) (b .numbers)) c
-        (implementationsOf (plainOf (b .sets) (b .numbers) .specs) c (now (implementations .entry)))) ⌝ }
+pub fn put_mod(sets: &[u64; 576], numbers: &mut [u8; 8768], c: usize, implementations: &[u8; 64])
+    requires { ⌜ TakesDefinition (now sets) (now numbers) c ⌝ }
+    ensures { λ _. ⌜ Holds (now (sets .entry)) (now (numbers .exit)) (withModule (plainOf (now (sets .entry)) (now (numbers .entry))) c
+        (implementationsOf (plainOf (now (sets .entry)) (now (numbers .entry)) .specs) c (now (implementations .entry)))) ⌝ }
 {
-    let mut n = b;
+    whole(*sets, *numbers);
     for j in 0..8 {
-        let v = wide(n.numbers[VERSION + (c * 8 + j)]);
+        let v = wide(numbers[VERSION + (c * 8 + j)]);
         if v < 64 {
-            n.numbers[IMPLEMENTATION + (c * 8 + j)] = implementations[v];
+            numbers[IMPLEMENTATION + (c * 8 + j)] = implementations[v];
         }
     }
-    n.numbers[c] = 2;
-    n
+    numbers[c] = 2;
 }
 
 // Component c is defined as a system: its version v gets the members at v, with their versions in row v.
-pub fn put_sys(b: Book, c: usize, usable: u64, members: &[u64; 64], rows: &[u8; 2048]) -> Book
-    requires { ⌜ (TakesDefinition (b .sets) (b .numbers) c) × (usable < 2 ^ 32) ⌝ }
-    requires { ⌜ ((v : ℕ) → model.hasVersion (plainOf (b .sets) (b .numbers) .specs) c v ≡ true → getD (now members) v 0 < 2 ^ 32) ⌝ }
-    ensures { λ r. ⌜ Holds (r .sets) (r .numbers) (withSystem (plainOf (b .sets) (b .numbers)) c (systemFrom
-        (plainOf (b .sets) (b .numbers) .specs) c usable (now (members .entry)) (now (rows .entry)))) ⌝ }
+pub fn put_sys(
+    sets: &mut [u64; 576],
+    numbers: &mut [u8; 8768],
+    c: usize,
+    usable: u64,
+    members: &[u64; 64],
+    rows: &[u8; 2048],
+)
+    requires { ⌜ (TakesDefinition (now sets) (now numbers) c) × (usable < 2 ^ 32) ⌝ }
+    requires { ⌜ ((v : ℕ) → model.hasVersion (plainOf (now sets) (now numbers) .specs) c v ≡ true → getD (now members) v 0 < 2 ^ 32) ⌝ }
+    ensures { λ _. ⌜ Holds (now (sets .exit)) (now (numbers .exit)) (withSystem (plainOf (now (sets .entry)) (now (numbers .entry))) c (systemFrom
+        (plainOf (now (sets .entry)) (now (numbers .entry)) .specs) c usable (now (members .entry)) (now (rows .entry)))) ⌝ }
 {
-    let mut n = b;
+    whole(*sets, *numbers);
     for j in 0..8 {
-        let v = wide(n.numbers[VERSION + (c * 8 + j)]);
+        let v = wide(numbers[VERSION + (c * 8 + j)]);
         if v < 64 {
-            n.sets[MEMBERS + (c * 8 + j)] = members[v];
-            put_row(&mut n.numbers, c * 8 + j, rows, v);
+            sets[MEMBERS + (c * 8 + j)] = members[v];
+            put_row(numbers, c * 8 + j, rows, v);
         }
     }
-    n.sets[USABLE + c] = usable;
-    n.numbers[c] = 3;
-    n
+    sets[USABLE + c] = usable;
+    numbers[c] = 3;
 }
 
 // Component c is specified, with no version yet.
-fn put_blank(b: Book, c: usize, provides: u64, standard: u8) -> Book
-    requires { ⌜ TakesSpec (b .sets) (b .numbers) c ⌝ }
-    ensures { λ r. ⌜ Holds (r .sets) (r .numbers) (withSpec (plainOf (b .sets) (b .numbers)) c (blank (bit provides) standard)) ⌝ }
+fn put_blank(sets: &mut [u64; 576], numbers: &mut [u8; 8768], c: usize, provides: u64, standard: u8)
+    requires { ⌜ TakesSpec (now sets) (now numbers) c ⌝ }
+    ensures { λ _. ⌜ Holds (now (sets .exit)) (now (numbers .exit)) (withSpec (plainOf (now (sets .entry)) (now (numbers .entry))) c (blank (bit provides) standard)) ⌝ }
 {
-    let mut n = b;
+    whole(*sets, *numbers);
     for j in 0..8 {
-        n.numbers[VERSION + (c * 8 + j)] = 64;
+        numbers[VERSION + (c * 8 + j)] = 64;
     }
-    n.sets[c] = provides;
-    n.numbers[STANDARD + c] = standard;
-    n.numbers[c] = 1;
-    n
+    sets[c] = provides;
+    numbers[STANDARD + c] = standard;
+    numbers[c] = 1;
 }
 
 // Component c is specified: what it provides, the set of its versions, what the version v requires at v, the standard version.
 pub fn put_spec(
-    b: Book,
+    sets: &mut [u64; 576],
+    numbers: &mut [u8; 8768],
     c: usize,
     provides: u64,
     versions: u64,
     requirements: &[u64; 64],
     standard: u8,
-) -> Book
-    requires { ⌜ (TakesSpec (b .sets) (b .numbers) c) × (count 64 (bit versions) ≤ 8) ⌝ }
-    ensures { λ r. ⌜ Holds (r .sets) (r .numbers) (withSpec (plainOf (b .sets) (b .numbers)) c (specFrom (bit provides) (bit versions)
+)
+    requires { ⌜ (TakesSpec (now sets) (now numbers) c) × (count 64 (bit versions) ≤ 8) ⌝ }
+    ensures { λ _. ⌜ Holds (now (sets .exit)) (now (numbers .exit)) (withSpec (plainOf (now (sets .entry)) (now (numbers .entry))) c (specFrom (bit provides) (bit versions)
         (now (requirements .entry)) standard 64)) ⌝ }
 {
-    let mut n = put_blank(b, c, provides, standard);
+    put_blank(sets, numbers, c, provides, standard);
     for v in 0..64 {
         if sets::member(versions, v) {
-            n = put_version(n, c, v, sets::below_64(requirements[v]));
+            put_version(sets, numbers, c, v, sets::below_64(requirements[v]));
         }
     }
-    n
 }

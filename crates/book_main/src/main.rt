@@ -30,7 +30,21 @@ fn spec(b: Book, c: usize, provides: u64, v: usize, required: u64) -> Book {
         return b;
     }
     let requirements: [u64; 64] = [required; 64];
-    book::put_spec(b, c, provides, versions, &requirements, v as u8)
+    let mut sets = b.sets;
+    let mut numbers = b.numbers;
+    book::put_spec(
+        &mut sets,
+        &mut numbers,
+        c,
+        provides,
+        versions,
+        &requirements,
+        v as u8,
+    );
+    Book {
+        sets: sets,
+        numbers: numbers,
+    }
 }
 
 // Component c defined as a system whose versions all have the same members, or the same Book where it can't be.
@@ -54,7 +68,20 @@ fn system(b: Book, c: usize, members: u64, rows: &[u8; 2048]) -> Book {
         return b;
     }
     let compositions: [u64; 64] = [members; 64];
-    book::put_sys(b, c, members, &compositions, rows)
+    let mut sets = b.sets;
+    let mut numbers = b.numbers;
+    book::put_sys(
+        &mut sets,
+        &mut numbers,
+        c,
+        members,
+        &compositions,
+        rows,
+    );
+    Book {
+        sets: sets,
+        numbers: numbers,
+    }
 }
 
 // probe, valve, loop and tank, as in document 01.

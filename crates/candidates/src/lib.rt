@@ -1,4 +1,5 @@
-// The Book as it would be after ADD-SYS and ADD-SYSVAR: the last questions of the two commands are put to it.
+// The Book as it would be after ADD-SYS and ADD-SYSVAR, made in the two arrays that are lent: the last questions of the two commands are put
+// to it.
 ghost use mathlib.Core.Path.{_≡_};
 ghost use mathlib.Core.Bool.{true};
 ghost use mathlib.Core.List.{List};
@@ -16,7 +17,6 @@ ghost use Rattle.requests.specs.Said.{usableOf, compositionsOf, membersOf};
 ghost use Rattle.requests.specs.Views.{usableView, compositionsView, compositionView};
 ghost use Rattle.questions.specs.Asked.{sysAsked, sysvarAsked};
 ghost use Rattle.candidates.specs.Completed.{versionStored, rowCompleted, rowsCompleted, LowMembers};
-use book::Book;
 use requests::Composition;
 use requests::Compositions;
 use requests::Usable;
@@ -79,31 +79,43 @@ fn low_members(members: [u64; 64]) -> [u64; 64]
 // ---- the Book afterwards
 
 // What ADD-SYS leaves, where the questions before those about the book afterwards are answered yes.
-pub fn sys_candidate(b: Book, c: usize, u: Usable, g: Compositions) -> Book
-    requires { ⌜ test.passes (b .sets) (b .numbers) ≡ true ⌝ }
-    requires { ⌜ firstNo (sysAsked (plainOf (b .sets) (b .numbers)) c (usableView u) (compositionsView g)) ≡ 0 ⌝ }
-    ensures { λ r. ⌜ ((us : List ℕ) (ks : List (ℕ × Members)) → usableView u ≡ usableOf us → compositionsView g ≡ compositionsOf ks
-        → Holds (r .sets) (r .numbers) (sysAfter (plainOf (b .sets) (b .numbers)) c (listed (usableView u)) (compositionsView g .given))) ⌝ }
+pub fn sys_candidate(
+    sets: &mut [u64; 576],
+    numbers: &mut [u8; 8768],
+    c: usize,
+    u: Usable,
+    g: Compositions,
+)
+    requires { ⌜ test.passes (now sets) (now numbers) ≡ true ⌝ }
+    requires { ⌜ firstNo (sysAsked (plainOf (now sets) (now numbers)) c (usableView u) (compositionsView g)) ≡ 0 ⌝ }
+    ensures { λ _. ⌜ ((us : List ℕ) (ks : List (ℕ × Members)) → usableView u ≡ usableOf us → compositionsView g ≡ compositionsOf ks
+        → Holds (now (sets .exit)) (now (numbers .exit)) (sysAfter (plainOf (now (sets .entry)) (now (numbers .entry))) c (listed (usableView u)) (compositionsView g .given))) ⌝ }
 {
     let given = g.members;
     let members = low_members(given);
     let mut rows = g.rows;
-    complete_rows(&b.sets, &b.numbers, &mut rows, g.listed);
-    book::put_sys(b, c, sets::below_32(u.set), &members, &rows)
+    complete_rows(sets, numbers, &mut rows, g.listed);
+    book::put_sys(sets, numbers, c, sets::below_32(u.set), &members, &rows)
 }
 
 // What ADD-SYSVAR leaves, where the questions before the one about the book afterwards are answered yes. No system is made usable in
 // another, so B4 holds whatever the composition is.
-pub fn sysvar_candidate(b: Book, c: usize, v: usize, g: Composition) -> Book
-    requires { ⌜ test.passes (b .sets) (b .numbers) ≡ true ⌝ }
-    requires { ⌜ firstNo (sysvarAsked (plainOf (b .sets) (b .numbers)) c v (compositionView g)) ≡ 0 ⌝ }
-    ensures { λ r. ⌜ ((ms : Members) → compositionView g ≡ membersOf ms
-        → Holds (r .sets) (r .numbers) (sysvarAfter (plainOf (b .sets) (b .numbers)) c v (compositionView g .given))) ⌝ }
-    ensures { λ r. ⌜ B4 (systemsOf (r .sets) (r .numbers)) ≡ true ⌝ }
+pub fn sysvar_candidate(
+    sets: &mut [u64; 576],
+    numbers: &mut [u8; 8768],
+    c: usize,
+    v: usize,
+    g: Composition,
+)
+    requires { ⌜ test.passes (now sets) (now numbers) ≡ true ⌝ }
+    requires { ⌜ firstNo (sysvarAsked (plainOf (now sets) (now numbers)) c v (compositionView g)) ≡ 0 ⌝ }
+    ensures { λ _. ⌜ ((ms : Members) → compositionView g ≡ membersOf ms
+        → Holds (now (sets .exit)) (now (numbers .exit)) (sysvarAfter (plainOf (now (sets .entry)) (now (numbers .entry))) c v (compositionView g .given))) ⌝ }
+    ensures { λ _. ⌜ B4 (systemsOf (now (sets .exit)) (now (numbers .exit))) ≡ true ⌝ }
 {
     let versions = g.versions;
     let mut rows: [u8; 2048] = [0; 2048];
     requests::put_row(&mut rows, v, versions);
-    complete_row(&b.sets, &b.numbers, &mut rows, v);
-    book::put_sysvar(b, c, v, sets::below_32(g.members), &rows)
+    complete_row(sets, numbers, &mut rows, v);
+    book::put_sysvar(sets, numbers, c, v, sets::below_32(g.members), &rows)
 }

@@ -103,270 +103,232 @@ fn held_by_none<'a>(sets: &'a [u64; 576], numbers: &'a [u8; 8768], c: usize, v: 
     true
 }
 
-// ---- commands on a Book that passes the test for 25
+// ---- commands on a Book that passes the test for 25, in the two arrays that are lent: the answer, and the arrays are changed if it is 0
 
 // DEL-SPEC.
-pub fn del_spec_in(b: Book, c: usize) -> Outcome
-    requires { ⌜ test.passes (b .sets) (b .numbers) ≡ true ⌝ }
-    ensures { λ r. ⌜ Called (b .sets) (b .numbers) (DEL-SPEC c) (r .answer) (r .book .sets) (r .book .numbers) ⌝ }
+pub fn del_spec_in(sets: &[u64; 576], numbers: &mut [u8; 8768], c: usize) -> u8
+    requires { ⌜ test.passes (now sets) (now numbers) ≡ true ⌝ }
+    ensures { λ r. ⌜ Called (now (sets .entry)) (now (numbers .entry)) (DEL-SPEC c) r (now (sets .entry)) (now (numbers .exit)) ⌝ }
 {
     if 32 <= c {
-        return Outcome { answer: 1, book: b };
+        return 1;
     }
-    if !book::is_specified(&b.sets, &b.numbers, c) {
-        return Outcome { answer: 4, book: b };
+    if !book::is_specified(sets, numbers, c) {
+        return 4;
     }
-    if !usable_in_none(&b.sets, &b.numbers, c) {
-        return Outcome {
-            answer: 18,
-            book: b,
-        };
+    if !usable_in_none(sets, numbers, c) {
+        return 18;
     }
-    Outcome {
-        answer: 0,
-        book: book::take_spec(b, c),
-    }
+    book::take_spec(sets, numbers, c);
+    0
 }
 
 // DEL-MOD.
-pub fn del_mod_in(b: Book, c: usize) -> Outcome
-    requires { ⌜ test.passes (b .sets) (b .numbers) ≡ true ⌝ }
-    ensures { λ r. ⌜ Called (b .sets) (b .numbers) (DEL-MOD c) (r .answer) (r .book .sets) (r .book .numbers) ⌝ }
+pub fn del_mod_in(sets: &[u64; 576], numbers: &mut [u8; 8768], c: usize) -> u8
+    requires { ⌜ test.passes (now sets) (now numbers) ≡ true ⌝ }
+    ensures { λ r. ⌜ Called (now (sets .entry)) (now (numbers .entry)) (DEL-MOD c) r (now (sets .entry)) (now (numbers .exit)) ⌝ }
 {
     if 32 <= c {
-        return Outcome { answer: 1, book: b };
+        return 1;
     }
-    if !book::is_module(&b.sets, &b.numbers, c) {
-        return Outcome { answer: 6, book: b };
+    if !book::is_module(sets, numbers, c) {
+        return 6;
     }
-    Outcome {
-        answer: 0,
-        book: book::take_mod(b, c),
-    }
+    book::take_mod(sets, numbers, c);
+    0
 }
 
 // DEL-SYS: B5 to B9 are asked of every system that is left.
-pub fn del_sys_in(b: Book, c: usize) -> Outcome
-    requires { ⌜ test.passes (b .sets) (b .numbers) ≡ true ⌝ }
-    ensures { λ r. ⌜ Called (b .sets) (b .numbers) (DEL-SYS c) (r .answer) (r .book .sets) (r .book .numbers) ⌝ }
+pub fn del_sys_in(sets: &[u64; 576], numbers: &mut [u8; 8768], c: usize) -> u8
+    requires { ⌜ test.passes (now sets) (now numbers) ≡ true ⌝ }
+    ensures { λ r. ⌜ Called (now (sets .entry)) (now (numbers .entry)) (DEL-SYS c) r (now (sets .entry)) (now (numbers .exit)) ⌝ }
 {
     if 32 <= c {
-        return Outcome { answer: 1, book: b };
+        return 1;
     }
-    if !book::is_system(&b.sets, &b.numbers, c) {
-        return Outcome { answer: 7, book: b };
+    if !book::is_system(sets, numbers, c) {
+        return 7;
     }
-    let left = book::take_sys(b, c);
-    if !rules::b5_to_b9(&left.sets, &left.numbers) {
-        return Outcome {
-            answer: 21,
-            book: b,
-        };
+    let mut left = *numbers;
+    book::take_sys(sets, &mut left, c);
+    if !rules::b5_to_b9(sets, &left) {
+        return 21;
     }
-    Outcome {
-        answer: 0,
-        book: left,
-    }
+    *numbers = left;
+    0
 }
 
 // DEL-MODVAR.
-pub fn del_modvar_in(b: Book, c: usize, v: usize) -> Outcome
-    requires { ⌜ test.passes (b .sets) (b .numbers) ≡ true ⌝ }
-    ensures { λ r. ⌜ Called (b .sets) (b .numbers) (DEL-MODVAR c v) (r .answer) (r .book .sets) (r .book .numbers) ⌝ }
+pub fn del_modvar_in(sets: &[u64; 576], numbers: &mut [u8; 8768], c: usize, v: usize) -> u8
+    requires { ⌜ test.passes (now sets) (now numbers) ≡ true ⌝ }
+    ensures { λ r. ⌜ Called (now (sets .entry)) (now (numbers .entry)) (DEL-MODVAR c v) r (now (sets .entry)) (now (numbers .exit)) ⌝ }
 {
     if 32 <= c {
-        return Outcome { answer: 1, book: b };
+        return 1;
     }
     if 64 <= v {
-        return Outcome { answer: 1, book: b };
+        return 1;
     }
-    if !book::is_module(&b.sets, &b.numbers, c) {
-        return Outcome { answer: 6, book: b };
+    if !book::is_module(sets, numbers, c) {
+        return 6;
     }
-    if !book::has_version(&b.sets, &b.numbers, c, v) {
-        return Outcome {
-            answer: 10,
-            book: b,
-        };
+    if !book::has_version(sets, numbers, c, v) {
+        return 10;
     }
-    if book::standard(&b.sets, &b.numbers, c) == v {
-        return Outcome {
-            answer: 15,
-            book: b,
-        };
+    if book::standard(sets, numbers, c) == v {
+        return 15;
     }
-    if !held_by_none(&b.sets, &b.numbers, c, v) {
-        return Outcome {
-            answer: 18,
-            book: b,
-        };
+    if !held_by_none(sets, numbers, c, v) {
+        return 18;
     }
-    Outcome {
-        answer: 0,
-        book: book::take_modvar(b, c, v),
-    }
+    book::take_modvar(sets, numbers, c, v);
+    0
 }
 
 // DEL-SYSVAR.
-pub fn del_sysvar_in(b: Book, s: usize, v: usize) -> Outcome
-    requires { ⌜ test.passes (b .sets) (b .numbers) ≡ true ⌝ }
-    ensures { λ r. ⌜ Called (b .sets) (b .numbers) (DEL-SYSVAR s v) (r .answer) (r .book .sets) (r .book .numbers) ⌝ }
+pub fn del_sysvar_in(sets: &[u64; 576], numbers: &mut [u8; 8768], s: usize, v: usize) -> u8
+    requires { ⌜ test.passes (now sets) (now numbers) ≡ true ⌝ }
+    ensures { λ r. ⌜ Called (now (sets .entry)) (now (numbers .entry)) (DEL-SYSVAR s v) r (now (sets .entry)) (now (numbers .exit)) ⌝ }
 {
     if 32 <= s {
-        return Outcome { answer: 1, book: b };
+        return 1;
     }
     if 64 <= v {
-        return Outcome { answer: 1, book: b };
+        return 1;
     }
-    if !book::is_system(&b.sets, &b.numbers, s) {
-        return Outcome { answer: 7, book: b };
+    if !book::is_system(sets, numbers, s) {
+        return 7;
     }
-    if !book::has_version(&b.sets, &b.numbers, s, v) {
-        return Outcome {
-            answer: 10,
-            book: b,
-        };
+    if !book::has_version(sets, numbers, s, v) {
+        return 10;
     }
-    if book::standard(&b.sets, &b.numbers, s) == v {
-        return Outcome {
-            answer: 15,
-            book: b,
-        };
+    if book::standard(sets, numbers, s) == v {
+        return 15;
     }
-    if !held_by_none(&b.sets, &b.numbers, s, v) {
-        return Outcome {
-            answer: 18,
-            book: b,
-        };
+    if !held_by_none(sets, numbers, s, v) {
+        return 18;
     }
-    Outcome {
-        answer: 0,
-        book: book::take_sysvar(b, s, v),
-    }
+    book::take_sysvar(sets, numbers, s, v);
+    0
 }
 
 // ---- the adding commands, on a Book that passes the test for 25: what is gathered of a command's lists goes in, and the call answers
 // for every command of which that is gathered
 
 // ADD-SPEC.
-pub fn add_spec_in(b: Book, c: usize, provided: u64, g: Sets, standard: usize) -> Outcome
-    requires { ⌜ test.passes (b .sets) (b .numbers) ≡ true ⌝ }
+pub fn add_spec_in(
+    sets: &mut [u64; 576],
+    numbers: &mut [u8; 8768],
+    c: usize,
+    provided: u64,
+    g: Sets,
+    standard: usize,
+) -> u8
+    requires { ⌜ test.passes (now sets) (now numbers) ≡ true ⌝ }
     ensures { λ r. ⌜ ((ps : List ℕ) (vs : List (ℕ × List ℕ)) → eachBelow facilities ps ≡ true → setOf ps ≡ bit provided → setsView g ≡ setsOf vs
-        → Called (b .sets) (b .numbers) (ADD-SPEC c ps vs standard) (r .answer) (r .book .sets) (r .book .numbers)) ⌝ }
+        → Called (now (sets .entry)) (now (numbers .entry)) (ADD-SPEC c ps vs standard) r (now (sets .exit)) (now (numbers .exit))) ⌝ }
 {
-    let answer = questions::spec_answer(&b.sets, &b.numbers, c, provided, g, standard);
+    let answer = questions::spec_answer(sets, numbers, c, provided, g, standard);
     if answer != 0 {
-        return Outcome {
-            answer: answer,
-            book: b,
-        };
+        return answer;
     }
-    Outcome {
-        answer: 0,
-        book: book::put_spec(b, c, provided, g.listed, &g.at, standard as u8),
-    }
+    book::put_spec(sets, numbers, c, provided, g.listed, &g.at, standard as u8);
+    0
 }
 
 // ADD-MOD.
-pub fn add_mod_in(b: Book, c: usize, g: Numbers) -> Outcome
-    requires { ⌜ test.passes (b .sets) (b .numbers) ≡ true ⌝ }
+pub fn add_mod_in(sets: &[u64; 576], numbers: &mut [u8; 8768], c: usize, g: Numbers) -> u8
+    requires { ⌜ test.passes (now sets) (now numbers) ≡ true ⌝ }
     ensures { λ r. ⌜ ((is : List (ℕ × ℕ)) → numbersView g ≡ numbersOf is
-        → Called (b .sets) (b .numbers) (ADD-MOD c is) (r .answer) (r .book .sets) (r .book .numbers)) ⌝ }
+        → Called (now (sets .entry)) (now (numbers .entry)) (ADD-MOD c is) r (now (sets .entry)) (now (numbers .exit))) ⌝ }
 {
-    let answer = questions::mod_answer(&b.sets, &b.numbers, c, g);
+    let answer = questions::mod_answer(sets, numbers, c, g);
     if answer != 0 {
-        return Outcome {
-            answer: answer,
-            book: b,
-        };
+        return answer;
     }
-    Outcome {
-        answer: 0,
-        book: book::put_mod(b, c, &g.at),
-    }
+    book::put_mod(sets, numbers, c, &g.at);
+    0
 }
 
 // ADD-MODVAR.
-pub fn add_modvar_in(b: Book, c: usize, v: usize, required: u64, i: usize) -> Outcome
-    requires { ⌜ test.passes (b .sets) (b .numbers) ≡ true ⌝ }
+pub fn add_modvar_in(
+    sets: &mut [u64; 576],
+    numbers: &mut [u8; 8768],
+    c: usize,
+    v: usize,
+    required: u64,
+    i: usize,
+) -> u8
+    requires { ⌜ test.passes (now sets) (now numbers) ≡ true ⌝ }
     ensures { λ r. ⌜ ((rs : List ℕ) → eachBelow facilities rs ≡ true → setOf rs ≡ bit required
-        → Called (b .sets) (b .numbers) (ADD-MODVAR c v rs i) (r .answer) (r .book .sets) (r .book .numbers)) ⌝ }
+        → Called (now (sets .entry)) (now (numbers .entry)) (ADD-MODVAR c v rs i) r (now (sets .exit)) (now (numbers .exit))) ⌝ }
 {
-    let answer = questions::modvar_answer(&b.sets, &b.numbers, c, v, required, i);
+    let answer = questions::modvar_answer(sets, numbers, c, v, required, i);
     if answer != 0 {
-        return Outcome {
-            answer: answer,
-            book: b,
-        };
+        return answer;
     }
-    Outcome {
-        answer: 0,
-        book: book::put_modvar(b, c, v, required, i as u8),
-    }
+    book::put_modvar(sets, numbers, c, v, required, i as u8);
+    0
 }
 
 // ADD-SYS: B5 to B9 are asked of every system afterwards.
-pub fn add_sys_in(b: Book, c: usize, u: Usable, g: Compositions) -> Outcome
-    requires { ⌜ test.passes (b .sets) (b .numbers) ≡ true ⌝ }
+pub fn add_sys_in(
+    sets: &mut [u64; 576],
+    numbers: &mut [u8; 8768],
+    c: usize,
+    u: Usable,
+    g: Compositions,
+) -> u8
+    requires { ⌜ test.passes (now sets) (now numbers) ≡ true ⌝ }
     ensures { λ r. ⌜ ((us : List ℕ) (ks : List (ℕ × Members)) → usableView u ≡ usableOf us → compositionsView g ≡ compositionsOf ks
-        → Called (b .sets) (b .numbers) (ADD-SYS c us ks) (r .answer) (r .book .sets) (r .book .numbers)) ⌝ }
+        → Called (now (sets .entry)) (now (numbers .entry)) (ADD-SYS c us ks) r (now (sets .exit)) (now (numbers .exit))) ⌝ }
 {
-    let answer = questions::sys_asked(&b.sets, &b.numbers, c, u, g);
+    let answer = questions::sys_asked(sets, numbers, c, u, g);
     if answer != 0 {
-        return Outcome {
-            answer: answer,
-            book: b,
-        };
+        return answer;
     }
-    let then = candidates::sys_candidate(b, c, u, g);
-    if !rules::b3(&then.sets, &then.numbers) {
-        return Outcome {
-            answer: 19,
-            book: b,
-        };
+    let mut then_sets = *sets;
+    let mut then_numbers = *numbers;
+    candidates::sys_candidate(&mut then_sets, &mut then_numbers, c, u, g);
+    if !rules::b3(&then_sets, &then_numbers) {
+        return 19;
     }
-    if !rules::b4(&then.sets, &then.numbers) {
-        return Outcome {
-            answer: 20,
-            book: b,
-        };
+    if !rules::b4(&then_sets, &then_numbers) {
+        return 20;
     }
-    if !rules::b5_to_b9(&then.sets, &then.numbers) {
-        return Outcome {
-            answer: 21,
-            book: b,
-        };
+    if !rules::b5_to_b9(&then_sets, &then_numbers) {
+        return 21;
     }
-    Outcome {
-        answer: 0,
-        book: then,
-    }
+    *sets = then_sets;
+    *numbers = then_numbers;
+    0
 }
 
 // ADD-SYSVAR: B5 to B9 are asked of every system afterwards.
-pub fn add_sysvar_in(b: Book, c: usize, v: usize, g: Composition) -> Outcome
-    requires { ⌜ test.passes (b .sets) (b .numbers) ≡ true ⌝ }
+pub fn add_sysvar_in(
+    sets: &mut [u64; 576],
+    numbers: &mut [u8; 8768],
+    c: usize,
+    v: usize,
+    g: Composition,
+) -> u8
+    requires { ⌜ test.passes (now sets) (now numbers) ≡ true ⌝ }
     ensures { λ r. ⌜ ((ms : Members) → compositionView g ≡ membersOf ms
-        → Called (b .sets) (b .numbers) (ADD-SYSVAR c v ms) (r .answer) (r .book .sets) (r .book .numbers)) ⌝ }
+        → Called (now (sets .entry)) (now (numbers .entry)) (ADD-SYSVAR c v ms) r (now (sets .exit)) (now (numbers .exit))) ⌝ }
 {
-    let answer = questions::sysvar_asked(&b.sets, &b.numbers, c, v, g);
+    let answer = questions::sysvar_asked(sets, numbers, c, v, g);
     if answer != 0 {
-        return Outcome {
-            answer: answer,
-            book: b,
-        };
+        return answer;
     }
-    let after = candidates::sysvar_candidate(b, c, v, g);
-    if !rules::b5_to_b9(&after.sets, &after.numbers) {
-        return Outcome {
-            answer: 21,
-            book: b,
-        };
+    let mut after_sets = *sets;
+    let mut after_numbers = *numbers;
+    candidates::sysvar_candidate(&mut after_sets, &mut after_numbers, c, v, g);
+    if !rules::b5_to_b9(&after_sets, &after_numbers) {
+        return 21;
     }
-    Outcome {
-        answer: 0,
-        book: after,
-    }
+    *sets = after_sets;
+    *numbers = after_numbers;
+    0
 }
 
 // ---- the public calls
@@ -388,13 +350,18 @@ pub fn add_spec<'a>(
             book: b,
         };
     }
-    add_spec_in(
-        b,
-        c,
-        provided,
-        requests::sets_of(versions, required),
-        standard,
-    )
+    let g = requests::sets_of(versions, required);
+    let mut sets = b.sets;
+    let mut numbers = b.numbers;
+    let answer = add_spec_in(&mut sets, &mut numbers, c, provided, g, standard);
+    let book = Book {
+        sets: sets,
+        numbers: numbers,
+    };
+    Outcome {
+        answer: answer,
+        book: book,
+    }
 }
 
 // ADD-MOD, on any Book: versions, and for each its implementation.
@@ -412,7 +379,18 @@ pub fn add_mod<'a>(
             book: b,
         };
     }
-    add_mod_in(b, c, requests::numbers_of(versions, implementations))
+    let g = requests::numbers_of(versions, implementations);
+    let sets = b.sets;
+    let mut numbers = b.numbers;
+    let answer = add_mod_in(&sets, &mut numbers, c, g);
+    let book = Book {
+        sets: sets,
+        numbers: numbers,
+    };
+    Outcome {
+        answer: answer,
+        book: book,
+    }
 }
 
 // ADD-MODVAR, on any Book: the facilities required as a set.
@@ -425,7 +403,17 @@ pub fn add_modvar(b: Book, c: usize, v: usize, required: u64, implementation: us
             book: b,
         };
     }
-    add_modvar_in(b, c, v, required, implementation)
+    let mut sets = b.sets;
+    let mut numbers = b.numbers;
+    let answer = add_modvar_in(&mut sets, &mut numbers, c, v, required, implementation);
+    let book = Book {
+        sets: sets,
+        numbers: numbers,
+    };
+    Outcome {
+        answer: answer,
+        book: book,
+    }
 }
 
 // ADD-SYS, on any Book: usable components; versions, and for each the length of its composition; the members of all compositions one
@@ -449,7 +437,17 @@ pub fn add_sys<'a>(
     }
     let u = requests::usable_of(usable);
     let g = requests::compositions_of(versions, lengths, members, chosen);
-    add_sys_in(b, c, u, g)
+    let mut sets = b.sets;
+    let mut numbers = b.numbers;
+    let answer = add_sys_in(&mut sets, &mut numbers, c, u, g);
+    let book = Book {
+        sets: sets,
+        numbers: numbers,
+    };
+    Outcome {
+        answer: answer,
+        book: book,
+    }
 }
 
 // ADD-SYSVAR, on any Book: members, and for each its version or requests::LEFT_OUT.
@@ -468,7 +466,18 @@ pub fn add_sysvar<'a>(
             book: b,
         };
     }
-    add_sysvar_in(b, c, v, requests::composition_of(members, chosen))
+    let g = requests::composition_of(members, chosen);
+    let mut sets = b.sets;
+    let mut numbers = b.numbers;
+    let answer = add_sysvar_in(&mut sets, &mut numbers, c, v, g);
+    let book = Book {
+        sets: sets,
+        numbers: numbers,
+    };
+    Outcome {
+        answer: answer,
+        book: book,
+    }
 }
 
 // DEL-SPEC, on any Book.
@@ -481,7 +490,17 @@ pub fn del_spec(b: Book, c: usize) -> Outcome
             book: b,
         };
     }
-    del_spec_in(b, c)
+    let sets = b.sets;
+    let mut numbers = b.numbers;
+    let answer = del_spec_in(&sets, &mut numbers, c);
+    let book = Book {
+        sets: sets,
+        numbers: numbers,
+    };
+    Outcome {
+        answer: answer,
+        book: book,
+    }
 }
 
 // DEL-MOD, on any Book.
@@ -494,7 +513,17 @@ pub fn del_mod(b: Book, c: usize) -> Outcome
             book: b,
         };
     }
-    del_mod_in(b, c)
+    let sets = b.sets;
+    let mut numbers = b.numbers;
+    let answer = del_mod_in(&sets, &mut numbers, c);
+    let book = Book {
+        sets: sets,
+        numbers: numbers,
+    };
+    Outcome {
+        answer: answer,
+        book: book,
+    }
 }
 
 // DEL-SYS, on any Book.
@@ -507,7 +536,17 @@ pub fn del_sys(b: Book, c: usize) -> Outcome
             book: b,
         };
     }
-    del_sys_in(b, c)
+    let sets = b.sets;
+    let mut numbers = b.numbers;
+    let answer = del_sys_in(&sets, &mut numbers, c);
+    let book = Book {
+        sets: sets,
+        numbers: numbers,
+    };
+    Outcome {
+        answer: answer,
+        book: book,
+    }
 }
 
 // DEL-MODVAR, on any Book.
@@ -520,7 +559,17 @@ pub fn del_modvar(b: Book, c: usize, v: usize) -> Outcome
             book: b,
         };
     }
-    del_modvar_in(b, c, v)
+    let sets = b.sets;
+    let mut numbers = b.numbers;
+    let answer = del_modvar_in(&sets, &mut numbers, c, v);
+    let book = Book {
+        sets: sets,
+        numbers: numbers,
+    };
+    Outcome {
+        answer: answer,
+        book: book,
+    }
 }
 
 // DEL-SYSVAR, on any Book.
@@ -533,5 +582,15 @@ pub fn del_sysvar(b: Book, c: usize, v: usize) -> Outcome
             book: b,
         };
     }
-    del_sysvar_in(b, c, v)
+    let sets = b.sets;
+    let mut numbers = b.numbers;
+    let answer = del_sysvar_in(&sets, &mut numbers, c, v);
+    let book = Book {
+        sets: sets,
+        numbers: numbers,
+    };
+    Outcome {
+        answer: answer,
+        book: book,
+    }
 }

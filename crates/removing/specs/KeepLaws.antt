@@ -1,4 +1,4 @@
--- The outcome of one of the ten commands, kept in the arrays of a session.
+-- One of the ten commands, called on the arrays of a session.
 use mathlib.Core.Bool.{true}
 use mathlib.Core.List.{List}
 use mathlib.Core.Logic.{_⊎_, inl, inr}
@@ -19,29 +19,13 @@ use Rattle.text.specs.Language.{Said}
 use Rattle.text.specs.Session.{State, carry, changed, decided, refused, told}
 use Rattle.text.specs.Tables.{Tables}
 
--- ---- the Book of an outcome, written back
+-- ---- what was called
 
 zero? : (a : ℕ) → (a ≡ 0) ⊎ (a ≡ 0 → ⊥)
 zero? zero = inl refl
 zero? (suc a) = inr (λ e. omega (arith, e))
 
 module _ (s n : List ℕ) (k : Command) (a : ℕ) (s′ n′ : List ℕ) (h : Called s n k a s′ n′) where
-  -- accepted: the arrays are those of the outcome
-  pub keep-accepted : (r : ℕ) (x y : List ℕ) → r ≡ a → x ≡ s′ → y ≡ n′ → Called s n k r x y
-  keep-accepted r x y e p q = record {
-    answer-is = e ∙ h .answer-is;
-    refused = λ ne. (let d = h .refused (λ z. ne (e ∙ z)) in (p ∙ d .0, q ∙ d .1));
-    accepted = λ z. (let d = h .accepted (sym e ∙ z) in (ap₂ plainOf p q ∙ d .0, ap₂ passes p q ∙ d .1));
-  }
-
-  -- refused: they are as they were
-  pub keep-refused : (r : ℕ) (x y : List ℕ) → r ≡ a → (a ≡ 0 → ⊥) → x ≡ s → y ≡ n → Called s n k r x y
-  keep-refused r x y e ne p q = record {
-    answer-is = e ∙ h .answer-is;
-    refused = λ _. (p, q);
-    accepted = λ z. absurd (ne (sym e ∙ z));
-  }
-
   called-passes : passes s n ≡ true → passes s′ n′ ≡ true
   called-passes p = elim (zero? a) [
     | inl z ↦ h .accepted z .1

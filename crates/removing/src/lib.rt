@@ -6,7 +6,6 @@ ghost use lib.ListN.{length};
 ghost use Rattle.book.specs.Plain.{plainOf};
 ghost use Rattle.commands.specs.Outcome.{Called};
 ghost use Rattle.language.specs.Readers.{Answers, Span};
-ghost use Rattle.model.specs.Commands.{Command};
 ghost use Rattle.names.specs.Stored.{answered, tableOf};
 ghost use Rattle.removing.specs.Removed.{componentAnswer, componentCommand, isOfKind, pairAnswer, removed, versionAnswer, versionCommand, versionRemoved};
 ghost use Rattle.rules.specs.Test as test;
@@ -16,8 +15,6 @@ ghost use Rattle.text.specs.Bytes.{short};
 ghost use Rattle.text.specs.Language.{ofOne, ofPair};
 ghost use Rattle.text.specs.Tables.{place};
 ghost use Rattle.words.specs.Reading.{part};
-use book::Book;
-use commands::Outcome;
 use states::Decision;
 
 // What delspec, delmod and delsys take out of a component.
@@ -33,12 +30,6 @@ pub enum Version {
     System,
 }
 
-fn wide(x: u8) -> usize
-    ensures { λ r. ⌜ r ≡ x ⌝ }
-{
-    x as usize
-}
-
 // The place of the part of the text from a to e.
 fn place_of(names: &[u8], places: usize, text: &[u8], a: usize, e: usize) -> names::Found
     requires { ⌜ length (now names) ≡ places * 33 ⌝ }
@@ -47,20 +38,6 @@ fn place_of(names: &[u8], places: usize, text: &[u8], a: usize, e: usize) -> nam
     ensures { λ r. ⌜ answered r ≡ place (tableOf places (now (names .entry))) (part (now (text .entry)) a e) ⌝ }
 {
     names::lookup(names, places, words::word(text, a, e))
-}
-
-// The Book of an outcome is written back if the command was accepted. It gives the answer.
-fn keep(sets: &mut [u64; 576], numbers: &mut [u8; 8768], done: Outcome) -> usize
-    ensures { λ r. ⌜ ((k : Command) → Called (now (sets .entry)) (now (numbers .entry)) k (done .answer) (done .book .sets) (done .book .numbers)
-        → Called (now (sets .entry)) (now (numbers .entry)) k r (now (sets .exit)) (now (numbers .exit))) ⌝ }
-{
-    if done.answer == 0 {
-        let then_sets = done.book.sets;
-        let then_numbers = done.book.numbers;
-        *sets = then_sets;
-        *numbers = then_numbers;
-    }
-    wide(done.answer)
 }
 
 // ---- delspec, delmod, delsys
@@ -76,29 +53,16 @@ fn component_answer(kind: Component) -> usize
     }
 }
 
-fn component_outcome(b: Book, kind: Component, c: usize) -> Outcome
-    requires { ⌜ test.passes (b .sets) (b .numbers) ≡ true ⌝ }
-    ensures { λ r. ⌜ Called (b .sets) (b .numbers) (componentCommand kind c) (r .answer) (r .book .sets) (r .book .numbers) ⌝ }
+// The command of the component with the number c, carried out. It gives the answer.
+fn take_out(sets: &[u64; 576], numbers: &mut [u8; 8768], kind: Component, c: usize) -> usize
+    requires { ⌜ test.passes (now sets) (now numbers) ≡ true ⌝ }
+    ensures { λ r. ⌜ Called (now (sets .entry)) (now (numbers .entry)) (componentCommand kind c) r (now (sets .entry)) (now (numbers .exit)) ⌝ }
 {
     match kind {
-        Component::Spec => commands::del_spec_in(b, c),
-        Component::Module => commands::del_mod_in(b, c),
-        Component::System => commands::del_sys_in(b, c),
+        Component::Spec => commands::del_spec_in(sets, numbers, c) as usize,
+        Component::Module => commands::del_mod_in(sets, numbers, c) as usize,
+        Component::System => commands::del_sys_in(sets, numbers, c) as usize,
     }
-}
-
-// The command of the component with the number c, carried out. It gives the answer.
-fn take_out(sets: &mut [u64; 576], numbers: &mut [u8; 8768], kind: Component, c: usize) -> usize
-    requires { ⌜ test.passes (now sets) (now numbers) ≡ true ⌝ }
-    ensures { λ r. ⌜ Called (now (sets .entry)) (now (numbers .entry)) (componentCommand kind c) r (now (sets .exit)) (now (numbers .exit)) ⌝ }
-{
-    let now_sets = *sets;
-    let now_numbers = *numbers;
-    let b = Book {
-        sets: now_sets,
-        numbers: now_numbers,
-    };
-    keep(sets, numbers, component_outcome(b, kind, c))
 }
 
 // delspec, delmod, delsys of the name that is read from position `at` on.
@@ -181,34 +145,21 @@ fn version_answer<'a>(
     pair_answer(kind)
 }
 
-fn version_outcome(b: Book, kind: Version, c: usize, v: usize) -> Outcome
-    requires { ⌜ test.passes (b .sets) (b .numbers) ≡ true ⌝ }
-    ensures { λ r. ⌜ Called (b .sets) (b .numbers) (versionCommand kind c v) (r .answer) (r .book .sets) (r .book .numbers) ⌝ }
-{
-    match kind {
-        Version::Module => commands::del_modvar_in(b, c, v),
-        Version::System => commands::del_sysvar_in(b, c, v),
-    }
-}
-
 // The command of version v of the component c, carried out. It gives the answer.
 fn take_version_out(
-    sets: &mut [u64; 576],
+    sets: &[u64; 576],
     numbers: &mut [u8; 8768],
     kind: Version,
     c: usize,
     v: usize,
 ) -> usize
     requires { ⌜ test.passes (now sets) (now numbers) ≡ true ⌝ }
-    ensures { λ r. ⌜ Called (now (sets .entry)) (now (numbers .entry)) (versionCommand kind c v) r (now (sets .exit)) (now (numbers .exit)) ⌝ }
+    ensures { λ r. ⌜ Called (now (sets .entry)) (now (numbers .entry)) (versionCommand kind c v) r (now (sets .entry)) (now (numbers .exit)) ⌝ }
 {
-    let now_sets = *sets;
-    let now_numbers = *numbers;
-    let b = Book {
-        sets: now_sets,
-        numbers: now_numbers,
-    };
-    keep(sets, numbers, version_outcome(b, kind, c, v))
+    match kind {
+        Version::Module => commands::del_modvar_in(sets, numbers, c, v) as usize,
+        Version::System => commands::del_sysvar_in(sets, numbers, c, v) as usize,
+    }
 }
 
 // delmodvar, delsysvar of the two names that are read from position `at` on.

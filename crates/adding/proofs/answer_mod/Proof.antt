@@ -1,4 +1,3 @@
-use Rattle.adding.specs.AddingLaws.{called-kept}
 use Rattle.adding.specs.AskedLaws.{mod-called}
 use borrow.Author.Needs.{needs}
 use Rattle.adding.proofs.answer_mod.Statement.{statement}
@@ -6,5 +5,4 @@ use Rattle.adding.proofs.answer_mod.Tie as tie
 
 pub answer-mod-spec : {M : Type 1} → statement M
 answer-mod-spec = tie.close
-    (tie.spec (λ c κs. search needs) (λ c κs. search needs)
-    (λ c. λ k q. called-kept _ _ _ _ _ _ _ (mod-called _ _ _ _ _ _ (c .before .add-mod-in .ensures) k q) (c .keep .ensures)))
+    (tie.spec (λ c κs. search needs) (λ c. search needs) (λ c. λ k q. mod-called _ _ _ _ _ _ (c .add-mod-in .ensures) k q))

@@ -1,4 +1,3 @@
-use Rattle.adding.specs.AddingLaws.{called-kept}
 use Rattle.adding.specs.AskedLaws.{sys-called}
 use borrow.Author.Needs.{needs}
 use Rattle.adding.proofs.answer_sys.Statement.{statement}
@@ -6,5 +5,4 @@ use Rattle.adding.proofs.answer_sys.Tie as tie
 
 pub answer-sys-spec : {M : Type 1} → statement M
 answer-sys-spec = tie.close
-    (tie.spec (λ c κs. search needs) (λ c κs. search needs)
-    (λ c. λ k q. called-kept _ _ _ _ _ _ _ (sys-called _ _ _ _ _ _ (c .before .add-sys-in .ensures) k q) (c .keep .ensures)))
+    (tie.spec (λ c κs. search needs) (λ c. search needs) (λ c. λ k q. sys-called _ _ _ _ _ _ (c .add-sys-in .ensures) k q))

@@ -5,5 +5,4 @@ use Rattle.book.proofs.put_version.Tie as tie
 
 pub put-version-spec : {M : Type 1} → statement M
 put-version-spec = tie.close
-    (tie.spec (λ c κs. search needs) (λ c. search needs) (λ c. search needs) (λ c. search needs) (λ c. search needs) (λ c. search needs)
-    (λ c. search needs) (λ c. search (needs, version-put)))
+    (tie.spec (λ c κs. search needs) (λ c κs. search needs) (λ c. search needs) (λ c. search needs) (λ c. search needs) (λ c. search needs) (λ c. search needs) (λ c. search needs) (λ c. search (needs, version-put)))

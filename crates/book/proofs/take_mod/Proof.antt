@@ -5,4 +5,4 @@ use Rattle.book.proofs.take_mod.Tie as tie
 
 pub take-mod-spec : {M : Type 1} → statement M
 take-mod-spec = tie.close
-    (tie.spec (λ c. search needs) (λ c. search (needs, module-taken)))
+    (tie.spec (λ c κs. search needs) (λ c. search needs) (λ c. search (needs, module-taken)))

@@ -5,4 +5,4 @@ use Rattle.book.proofs.take_spec.Tie as tie
 
 pub take-spec-spec : {M : Type 1} → statement M
 take-spec-spec = tie.close
-    (tie.spec (λ c. search needs) (λ c. search (needs, spec-taken)))
+    (tie.spec (λ c κs. search needs) (λ c. search needs) (λ c. search (needs, spec-taken)))

@@ -5,4 +5,4 @@ use Rattle.book.proofs.take_sys.Tie as tie
 
 pub take-sys-spec : {M : Type 1} → statement M
 take-sys-spec = tie.close
-    (tie.spec (λ c. search needs) (λ c. search (needs, system-taken)))
+    (tie.spec (λ c κs. search needs) (λ c. search needs) (λ c. search (needs, system-taken)))

@@ -15,4 +15,4 @@ returns-2 c = c .add-modvar-in .ensures (facilitiesSaid _) (said-below _) (said-
 
 pub add-modvar-spec : {M : Type 1} → statement M
 add-modvar-spec = tie.close
-    (tie.spec (λ c κs. search needs) (λ c. refuse-25 _ _ _ (sym (c .before .passes .ensures) ∙ not-true _ (c .if1 .taken))) (λ c κs. is-yes _ (c .before .passes .ensures) (c .if1 .left)) returns-2)
+    (tie.spec (λ c κs. search needs) (λ c. refuse-25 _ _ _ (sym (c .before .passes .ensures) ∙ not-true _ (c .if1 .taken))) (λ c κs. is-yes _ (c .before .before .before .before .before .passes .ensures) (c .before .before .before .before .if1 .left)) returns-2)

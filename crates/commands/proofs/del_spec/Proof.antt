@@ -8,5 +8,4 @@ use Rattle.commands.proofs.del_spec.Tie as tie
 
 pub del-spec-spec : {M : Type 1} → statement M
 del-spec-spec = tie.close
-    (tie.spec (λ c κs. search needs) (λ c. refuse-25 _ _ _ (sym (c .before .passes .ensures) ∙ not-true _ (c .if1 .taken)))
-    (λ c κs. is-yes _ (c .before .passes .ensures) (c .if1 .left)) (λ c. c .del-spec-in .ensures))
+    (tie.spec (λ c κs. search needs) (λ c. refuse-25 _ _ _ (sym (c .before .passes .ensures) ∙ not-true _ (c .if1 .taken))) (λ c κs. is-yes _ (c .before .before .before .before .before .passes .ensures) (c .before .before .before .before .if1 .left)) (λ c. c .del-spec-in .ensures))

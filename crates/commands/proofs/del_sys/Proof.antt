@@ -8,5 +8,4 @@ use Rattle.commands.proofs.del_sys.Tie as tie
 
 pub del-sys-spec : {M : Type 1} → statement M
 del-sys-spec = tie.close
-    (tie.spec (λ c κs. search needs) (λ c. refuse-25 _ _ _ (sym (c .before .passes .ensures) ∙ not-true _ (c .if1 .taken)))
-    (λ c κs. is-yes _ (c .before .passes .ensures) (c .if1 .left)) (λ c. c .del-sys-in .ensures))
+    (tie.spec (λ c κs. search needs) (λ c. refuse-25 _ _ _ (sym (c .before .passes .ensures) ∙ not-true _ (c .if1 .taken))) (λ c κs. is-yes _ (c .before .before .before .before .before .passes .ensures) (c .before .before .before .before .if1 .left)) (λ c. c .del-sys-in .ensures))

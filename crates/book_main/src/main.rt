@@ -70,14 +70,7 @@ fn system(b: Book, c: usize, members: u64, rows: &[u8; 2048]) -> Book {
     let compositions: [u64; 64] = [members; 64];
     let mut sets = b.sets;
     let mut numbers = b.numbers;
-    book::put_sys(
-        &mut sets,
-        &mut numbers,
-        c,
-        members,
-        &compositions,
-        rows,
-    );
+    book::put_sys(&mut sets, &mut numbers, c, members, &compositions, rows);
     Book {
         sets: sets,
         numbers: numbers,

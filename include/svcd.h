@@ -16,7 +16,7 @@ extern "C" {
 #define SVCD_LONGEST 2147483647
 
 /* A call writes on less than this many bytes of stack; tests/session.sh measures it. */
-#define SVCD_STACK 524288
+#define SVCD_STACK 131072
 
 /*
  * Runs the session whose commands stand in text[0 .. text_len - 1], from an empty book, and writes its listing into the slice

@@ -26,9 +26,9 @@ use Rattle.names.specs.Stored.{answered, tableOf, tablesOf}
 use Rattle.names.specs.declared.Found.{Found}
 use Rattle.names.specs.declared.Found.the-variants.{At, Nothing}
 use Rattle.sets.specs.Sets.{bit}
-use Rattle.sets.specs.TestLaws.{clash, if-false, if-true}
+use Rattle.sets.specs.TestLaws.{if-false, if-true}
 use Rattle.sets.specs.Tests.{if_then_else_}
-use Rattle.states.specs.Carried.{Carried, Unread}
+use Rattle.states.specs.Carried.{Carried}
 use Rattle.states.specs.State.{stateOf}
 use Rattle.text.specs.Bytes.{Text, short}
 use Rattle.text.specs.Language.{CHOICE, Name, Reader, Said, choice, ofOne, ofPair}
@@ -43,13 +43,7 @@ use Rattle.asking.specs.declared.OfComponent.the-variants.{Supplies, Sta
 use Rattle.asking.specs.declared.OfVersion.{OfVersion}
 use Rattle.asking.specs.declared.OfVersion.the-variants.{Needs, Parts}
 
--- ---- what was read, and what was not
-
-pub unread : (p : Room) (old : List ℕ) → Unread false p p old old
-unread p old = record { room = λ e. refl; slice = λ e. refl }
-
-pub was-read : (p q : Room) (old new : List ℕ) → Unread true p q old new
-was-read p q old new = record { room = λ e. clash refl e; slice = λ e. clash refl e }
+-- ---- what was read
 
 module _ {A : Type 0} (p : Reader A) (Q R : A → Type 0) (t : Text) (at e : ℕ) (there : Bool) (r : Answers p Q t at there e) (n : not there ≡ false) where
   -- what was read may be said otherwise

@@ -1,14 +1,19 @@
--- The row of one of the ten commands.
+-- The row of one of the ten commands; a query that was read.
+use mathlib.Core.Bool.{false, true}
 use mathlib.Core.List.{List}
 use mathlib.Core.Path.{_∙_, _≡_, ap, refl, subst, sym}
-use Prim.Native.Nat.{suc, zero, ℕ}
+use Prim.Native.Nat.{_≤_, suc, zero, ℕ}
+use native.Mathlib.Nat.{le-refl}
 use native.Mathlib.Omega.{arith}
+use lib.ListN.{length}
+use Rattle.language.specs.Readers.{Answers}
 use Rattle.listing.specs.Room.{Puts}
 use Rattle.listing.specs.declared.Room.{Room}
+use Rattle.sets.specs.TestLaws.{clash}
 use Rattle.text.specs.Bytes.{Text}
-use Rattle.text.specs.Language.{Said}
+use Rattle.text.specs.Language.{Said, give}
 use Rattle.text.specs.Session.{State, afterwards, decided, decimal, lines, row}
-use Rattle.states.specs.Carried.{Carried, Decides}
+use Rattle.states.specs.Carried.{Carried, Decides, Unread}
 
 decided-lines : (i a : ℕ) (s : State) → lines i (decided a s) ≡ row i (decimal a)
 unfolding lines decided
@@ -26,3 +31,20 @@ decides-carried i a s s′ p q old new x d r = record {
   rows = subst (λ (w : Text). Puts w p q old new) (sym (ap (lines i) (d .is) ∙ decided-lines i a s′)) r;
   state = decided-state a s s′ (d .refused) ∙ sym (ap (afterwards s) (d .is));
 }
+
+-- ---- a query that was read
+
+-- a query of one word
+pub asked-alone : (x : Said) {R : Said → Type 0} {t : Text} {at : ℕ} → at ≤ length t → R x → Answers (give x) R t at true at
+unfolding give
+asked-alone x l r = record {
+  yes = λ y. record { value = x; is = refl; took = r; from = le-refl _; inside = l };
+  no = λ y. clash refl y;
+}
+
+-- where no command was read, nothing is put
+pub unread : (p : Room) (old : List ℕ) → Unread false p p old old
+unread p old = record { room = λ y. refl; slice = λ y. refl }
+
+pub was-read : {p q : Room} {old new : List ℕ} → Unread true p q old new
+was-read = record { room = λ y. clash refl y; slice = λ y. clash refl y }

@@ -4,7 +4,6 @@ use mathlib.Core.List.{List, [], _++_}
 use mathlib.Core.Logic.{inl, inr}
 use mathlib.Core.Path.{_∙_, _≡_, ap, refl, subst, sym}
 use Prim.Native.Nat.{_<_, _≤_, suc, ℕ}
-use native.Mathlib.Nat.{le-refl}
 use native.Mathlib.Omega.{arith}
 use borrow.Author.Tests.{not-false, not-true}
 use lib.ListN.{drop, length, length-drop}
@@ -18,7 +17,7 @@ use Rattle.sets.specs.Tests.{_<?_}
 use Rattle.states.specs.Carried.{Carried, Decides, Unread}
 use Rattle.states.specs.CarriedLaws.{decides-carried}
 use Rattle.text.specs.Bytes.{Text}
-use Rattle.text.specs.Language.{Read, Reader, Said, command, give, over, readAs, said, wrong}
+use Rattle.text.specs.Language.{Read, Reader, Said, command, over, readAs, said, wrong}
 use Rattle.text.specs.Session.{State, carry, decimal, lines, onRead, row, sessionFrom}
 use Rattle.text_theorems.specs.Bounds.{session-step}
 use Rattle.text_theorems.specs.Left.{left-length}
@@ -122,17 +121,6 @@ behind-unshown {i = i} {p = p} {r = r} {mid = mid} {new = new} d u h g =
     behind-unread d h refl
     (subst (λ (x : List ℕ). Puts (row i (decimal 23)) p r x new) (u .slice n)
     (subst (λ (x : Room). Puts (row i (decimal 23)) x r mid new) (u .room n) g))
-
--- a query of one word
-pub asked-alone : (x : Said) {R : Said → Type 0} {t : Text} {at : ℕ} → at ≤ length t → R x → Answers (give x) R t at true at
-unfolding give
-asked-alone x l r = record {
-  yes = λ y. record { value = x; is = refl; took = r; from = le-refl _; inside = l };
-  no = λ y. clash refl y;
-}
-
-pub was-read : {p q : Room} {old new : List ℕ} → Unread true p q old new
-was-read = record { room = λ y. clash refl y; slice = λ y. clash refl y }
 
 -- ---- the whole step
 

@@ -1,3 +1,4 @@
+pub mod Ran
+pub mod RanLaws
 pub mod Reached
-pub mod ReachedLaws
 pub mod LeavesLaws

@@ -2,7 +2,8 @@
 ghost use mathlib.Core.Path.{_≡_};
 ghost use Rattle.states.specs.State.{Ready, stateOf};
 ghost use Rattle.text.specs.Session.{fresh};
-ghost use Rattle.svcd.specs.Reached.{Leaves, Ran, SessionCall};
+ghost use Rattle.svcd.specs.Ran.{Ran};
+ghost use Rattle.svcd.specs.Reached.{Leaves, SessionCall};
 ghost use Rattle.text.specs.LentSlice.{hostResult, hostSlice};
 use book::Book;
 use listing::Room;

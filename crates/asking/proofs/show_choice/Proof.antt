@@ -1,6 +1,7 @@
 use borrow.Author.Needs.{needs}
 use Rattle.language.specs.TakeLaws.{no-answer}
-use Rattle.asking.specs.AskedLaws.{choice-answers, unread, was-read}
+use Rattle.asking.specs.AskedLaws.{choice-answers}
+use Rattle.states.specs.CarriedLaws.{unread, was-read}
 use Rattle.asking.proofs.show_choice.Statement.{statement}
 use Rattle.asking.proofs.show_choice.Tie as tie
 
@@ -10,7 +11,7 @@ returns c = (no-answer _ _ _ _ _ _ _ _ (c .before .before .read-choice .ensures)
 returns-2 : tie.Need-returns-2
 returns-2 c = (
   choice-answers _ _ _ _ (c .before .before .before .before .before .before .read-choice .ensures) (c .before .before .before .before .if1 .left) _ (c .before .before .put-known-choice .ensures),
-  was-read _ _ _ _,
+  was-read,
 )
 
 pub show-choice-spec : {M : Type 1} → statement M

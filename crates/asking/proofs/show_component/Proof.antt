@@ -1,7 +1,8 @@
 use borrow.Author.Needs.{needs}
 use Rattle.language.specs.TakeLaws.{no-answer}
 use Rattle.asking.specs.Asked.{askedOf}
-use Rattle.asking.specs.AskedLaws.{one-answers, one-short, one-span, unread, was-read}
+use Rattle.asking.specs.AskedLaws.{one-answers, one-short, one-span}
+use Rattle.states.specs.CarriedLaws.{unread, was-read}
 use Rattle.asking.proofs.show_component.Statement.{statement}
 use Rattle.asking.proofs.show_component.Tie as tie
 
@@ -20,7 +21,7 @@ put-named-component-requires c κs = (
 returns-2 : tie.Need-returns-2
 returns-2 c = (
   one-answers _ _ _ _ _ _ (c .before .before .before .before .before .before .before .read-one .ensures (askedOf (c .before .before .before .before .before .before .before .before .before .before .args .query))) (c .before .before .before .before .before .if1 .left) _ _ (c .before .before .before .word .ensures) (c .before .before .put-named-component .ensures),
-  was-read _ _ _ _,
+  was-read,
 )
 
 pub show-component-spec : {M : Type 1} → statement M

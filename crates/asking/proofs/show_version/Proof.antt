@@ -1,7 +1,8 @@
 use borrow.Author.Needs.{needs}
 use Rattle.language.specs.TakeLaws.{no-answer}
 use Rattle.asking.specs.Asked.{askedOfVersion}
-use Rattle.asking.specs.AskedLaws.{pair-answers, pair-component, pair-short, pair-version, unread, was-read}
+use Rattle.asking.specs.AskedLaws.{pair-answers, pair-component, pair-short, pair-version}
+use Rattle.states.specs.CarriedLaws.{unread, was-read}
 use Rattle.asking.proofs.show_version.Statement.{statement}
 use Rattle.asking.proofs.show_version.Tie as tie
 
@@ -23,7 +24,7 @@ put-named-version-requires c κs = (
 returns-2 : tie.Need-returns-2
 returns-2 c = (
   pair-answers _ _ _ _ (c .before .before .before .before .before .before .before .before .read-pair .ensures (askedOfVersion (c .before .before .before .before .before .before .before .before .before .before .before .args .query))) (c .before .before .before .before .before .before .if1 .left) _ _ (c .before .before .before .before .before .word .ensures) (c .before .before .before .before .word2 .ensures) _ (c .before .before .put-named-version .ensures),
-  was-read _ _ _ _,
+  was-read,
 )
 
 pub show-version-spec : {M : Type 1} → statement M

@@ -3,7 +3,7 @@ use Rattle.asking.specs.Asked.{askedOf, askedOfVersion}
 use Rattle.text.specs.Language.{OUT, UNDEFINED, UNUSED}
 use Rattle.steps.specs.FormLaws.{as-query}
 use Rattle.steps.specs.Forms.{queryOf}
-use Rattle.steps.specs.StepLaws.{asked-alone, was-read}
+use Rattle.states.specs.CarriedLaws.{asked-alone, was-read}
 use Rattle.steps.specs.declared.Query.the-variants.{Choice, Needs, Out, Parts, Standard, Supplies, Undefined, Unused, WhereUsed}
 use Rattle.steps.proofs.show.Statement.{statement}
 use Rattle.steps.proofs.show.Tie as tie

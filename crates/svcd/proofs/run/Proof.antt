@@ -6,8 +6,8 @@ use lib.ListN.{length}
 use Prim.Native.Nat.{_-_}
 use Rattle.listing.specs.RoomLaws.{partly-keeps}
 use Rattle.states.specs.State.{Ready, stateOf}
-use Rattle.svcd.specs.Reached.{Running}
-use Rattle.svcd.specs.ReachedLaws.{forward, on-rest, ran, step-fits, running-less, running-on, running-start}
+use Rattle.svcd.specs.Ran.{Running}
+use Rattle.svcd.specs.RanLaws.{forward, on-rest, ran, step-fits, running-less, running-on, running-start}
 
 abbrev Inv-loop : tie.InvT-loop
 Inv-loop sets₀ numbers₀ comps₀ vers₀ facs₀ impls₀ text out₀ room₀ at₀ i₀ sets numbers comps vers facs impls out room at i =

@@ -12,7 +12,7 @@ use Rattle.listing.specs.RoomLaws.{partly-as, partly-end, partly-more, partly-s
 use Rattle.listing.specs.declared.Room.{Room}
 use Rattle.text.specs.Bytes.{Text}
 use Rattle.text.specs.Session.{State, fresh, session}
-use Rattle.svcd.specs.Reached.{Ran, Running, whole}
+use Rattle.svcd.specs.Ran.{Ran, Running, whole}
 use Rattle.steps.specs.Stepped.{Stepped, sessionOf}
 
 pub running-start : (t : Text) (old : List ℕ) (s : State) → s ≡ fresh → Running t 0 1 s (whole old) old old

@@ -11,19 +11,18 @@ use native.Mathlib.Omega.{arith}
 use borrow.Author.Tests.{not-false, not-true}
 use lib.Dec.{eqb}
 use lib.ListN.{drop, length, length-drop, take}
-use Rattle.model.specs.Lists.{every, nonEmpty}
 use Rattle.model.specs.Maps.{isSome, onlyIf, orElse}
 use Rattle.sets.specs.TestLaws.{==-in, ==-out, all-out, bool?, clash, fails, if-false, if-true, iff→≡, ≤?-out}
-use Rattle.sets.specs.Tests.{_&_, _or_, _≤?_, all, ~_}
+use Rattle.sets.specs.Tests.{_&_, _≤?_, all}
 use Rattle.theorems.specs.MapLaws.{no-some}
 use Rattle.names.specs.declared.Found.{Found}
 use Rattle.names.specs.declared.Found.the-variants.{At, Nothing}
 use Rattle.names.specs.Stored.{answered}
 use Rattle.words.specs.TokenLaws.{part-length, short-in}
-use Rattle.text_theorems.specs.Places.{apart, apart-once, place-among, place-name, place-of}
-use Rattle.text_theorems.specs.TextLaws.{every-among, same-out, same-refl}
+use Rattle.text_theorems.specs.Places.{place-name}
+use Rattle.text_theorems.specs.TextLaws.{same-out, same-sym}
 use Rattle.sets.specs.Tests.{_==_, if_then_else_}
-use Rattle.text.specs.Bytes.{Text, among, bytes, keywords, nameWord, same, short}
+use Rattle.text.specs.Bytes.{Text, bytes, keywords, nameWord, same, short}
 use Rattle.text.specs.Language.{Reader, ahead, aheadOf, imp, name, nameOf, quotedOf, want, wantOf}
 use Rattle.text.specs.Tables.{nameAt, place}
 use Rattle.text.specs.Tokens.{Next, bad, end, isToken, mark, nextToken, quoted, token, word}
@@ -69,39 +68,11 @@ part-short t w a e h m q = short-in w (part-some t w a e h q) (let n = part-leng
 
 -- ---- keywords
 
-keywords-apart : apart keywords ≡ true
-unfolding apart among same keywords bytes _&_ _or_ ~_ _==_
-keywords-apart = refl
-
-keywords-full : all 28 (λ k. nonEmpty (nameAt keywords k)) ≡ true
-unfolding all nonEmpty nameAt keywords bytes _&_
-keywords-full = refl
-
-keywords-short : every (λ w. length w ≤? 32) keywords ≡ true
-unfolding every keywords bytes _&_ _≤?_
-keywords-short = refl
-
-key-here : (w : Text) (k : ℕ) → k < 28 → same (nameAt keywords k) w ≡ true → keyNumber w ≡ k
-unfolding keyNumber orElse
-key-here w k h e =
-    or-at′ (ap (place keywords) (sym (same-out _ _ e))
-    ∙ place-of keywords (apart-once keywords keywords-apart) k (all-out 28 (λ i. nonEmpty (nameAt keywords i)) keywords-full k h))
+keyword-length : (k : ℕ) → k < 28 → length (nameAt keywords k) ≤ 32
+keyword-length k h = ≤?-out _ _ (all-out 28 (λ i. length (nameAt keywords i) ≤? 32) each k h)
   where
-    or-at′ : place keywords w ≡ some k → orElse (place keywords w) 28 ≡ k
-    or-at′ q = ap (λ (o : Option ℕ). orElse o 28) q
-
-key-there : (w : Text) (k : ℕ) → k < 28 → keyNumber w ≡ k → same (nameAt keywords k) w ≡ true
-unfolding keyNumber orElse
-key-there w k h e = by (place keywords w) refl
-  where
-    by : (o : Option ℕ) → place keywords w ≡ o → same (nameAt keywords k) w ≡ true
-    by none q = let z : 28 ≡ k = sym (ap (λ (o : Option ℕ). orElse o 28) q) ∙ e in absurd (omega arith)
-    by (some j) q =
-        let z : j ≡ k = sym (ap (λ (o : Option ℕ). orElse o 28) q) ∙ e in
-        ap (λ (x : Text). same x w) (ap (nameAt keywords) (sym z) ∙ place-name keywords w j q .0) ∙ same-refl w
-
-key-same : (w : Text) (k : ℕ) → k < 28 → same (nameAt keywords k) w ≡ (keyNumber w == k)
-key-same w k h = iff→≡ _ _ (λ e. ==-in _ _ (key-here w k h e)) (λ e. key-there w k h (==-out _ _ e))
+    each : all 28 (λ i. length (nameAt keywords i) ≤? 32) ≡ true
+    each = unfold all nameAt keywords bytes _&_ _≤?_ in refl
 
 -- the ways out of keyword_between
 pub key-long : (t : Text) (a e : ℕ) → Span t a e → 32 < e - a → 28 ≡ keyNumber (part t a e)
@@ -111,8 +82,8 @@ key-long t a e h l = by (place keywords (part t a e)) refl
     by : (o : Option ℕ) → place keywords (part t a e) ≡ o → 28 ≡ orElse (place keywords (part t a e)) 28
     by none q = sym (ap (λ (o : Option ℕ). orElse o 28) q)
     by (some j) q =
-        let s = every-among (λ w. length w ≤? 32) keywords (part t a e) keywords-short (place-among keywords _ j q) in
-        let n = part-length t a e (h .inside) in let m = ≤?-out _ _ s in
+        let s = place-name keywords (part t a e) j q in let m : length keywords ≡ 28 = (unfold keywords in refl) in
+        let n = part-length t a e (h .inside) in let o = ap length (s .0) in let i = keyword-length j (omega arith) in
         absurd (omega arith)
 
 pub key-found : (t w : Text) (a e : ℕ) (f : Found) (j : ℕ) → w ≡ part t a e → answered f ≡ place keywords w → f ≡ At j
@@ -124,6 +95,19 @@ pub key-none : (t w : Text) (a e : ℕ) (f : Found) → w ≡ part t a e → ans
     → 28 ≡ keyNumber (part t a e)
 unfolding keyNumber answered orElse
 key-none t w a e f p q h = sym (ap (λ (o : Option ℕ). orElse o 28) (ap (place keywords) (sym p) ∙ sym q ∙ ap answered h))
+
+-- the ways out of is_key_between
+pub not-key-long : (t : Text) (a e k : ℕ) → Span t a e → k < 28 → 32 < e - a → false ≡ same (part t a e) (nameAt keywords k)
+not-key-long t a e k h l m =
+    sym (fails _ (λ s. let q = ap length (same-out _ _ s) in let n = part-length t a e (h .inside) in
+    let j = keyword-length k l in absurd (omega arith)))
+
+pub key-part : (t w : Text) (a e k : ℕ) (r : Bool) → w ≡ part t a e → r ≡ same w (nameAt keywords k)
+    → r ≡ same (part t a e) (nameAt keywords k)
+key-part t w a e k r p q = q ∙ ap (λ (x : Text). same x (nameAt keywords k)) p
+
+same-turn : (x y : Text) → same x y ≡ same y x
+same-turn x y = iff→≡ _ _ (same-sym x y) (same-sym y x)
 
 pub name-part : (t w : Text) (a e : ℕ) (r : Bool) → w ≡ part t a e → r ≡ nameWord w → r ≡ nameWord (part t a e)
 name-part t w a e r p q = q ∙ ap nameWord p
@@ -281,13 +265,12 @@ module _ (t : Text) (at a e : ℕ) (there : Bool) (r : Answers anyWord (PartOf t
         (ap nameOf next-is ∙ ap (λ (x : Bool). onlyIf x (part t a e, drop e t)) (sym q))
         (record { is = refl; span = g .took .span }) (g .from) (g .inside)
 
-    pub key-is : (k m : ℕ) → m ≡ keyNumber (part t a e) → k < 28 → Answers (want (keyAt k)) Any t at (eqb m k) e
-    unfolding want wantOf keyAt isToken _==_
-    key-is k m q h =
+    pub key-is : (k : ℕ) (b : Bool) → b ≡ same (part t a e) (nameAt keywords k) → Answers (want (keyAt k)) Any t at b e
+    unfolding want wantOf keyAt isToken
+    key-is k b q =
         let g = r .yes (not-false there n) in
-        answer-only (want (keyAt k)) Any t at e (eqb m k) tt
-        (ap (wantOf (keyAt k)) next-is
-        ∙ ap (λ (x : Bool). onlyIf x (tt, drop e t)) (key-same (part t a e) k h ∙ ap (λ (x : ℕ). x == k) (sym q)))
+        answer-only (want (keyAt k)) Any t at e b tt
+        (ap (wantOf (keyAt k)) next-is ∙ ap (λ (x : Bool). onlyIf x (tt, drop e t)) (same-turn (nameAt keywords k) (part t a e) ∙ sym q))
         (record {}) (g .from) (g .inside)
 
 -- ---- what stands next, read only if it is there

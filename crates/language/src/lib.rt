@@ -4,9 +4,9 @@ ghost use mathlib.Core.Bool.{true, false};
 ghost use mathlib.Core.List.{List};
 ghost use Prim.Native.Nat.{ℕ, _+_, _<_, _≤_};
 ghost use lib.ListN.{length};
-ghost use Rattle.text.specs.Bytes.{nameWord, short};
+ghost use Rattle.text.specs.Bytes.{keywords, nameWord, same, short};
 ghost use Rattle.names.specs.Stored.{answered, tableOf, tablesOf};
-ghost use Rattle.text.specs.Tables.{place};
+ghost use Rattle.text.specs.Tables.{nameAt, place};
 ghost use Rattle.language.specs.Choices.{ChoiceAsked, KnownStep};
 ghost use Rattle.language.specs.Requested.{SpecAsked, SpecMade, ModAsked, ModMade, ModvarAsked, ModvarMade, PairEnters, PairMade, SysvarAsked, SysvarMade, SysAsked, SysMade};
 ghost use Rattle.language.specs.Words.{CommandAt, OneSaid, PairSaid, commandNumber};
@@ -164,6 +164,18 @@ fn keyword_between(text: &[u8], a: usize, e: usize) -> usize
     k
 }
 
+// Whether the word from a to e is the keyword with the number k.
+fn is_key_between(text: &[u8], a: usize, e: usize, k: usize) -> bool
+    requires { ⌜ Span (now text) a e ⌝ }
+    requires { ⌜ k < 28 ⌝ }
+    ensures { λ r. ⌜ r ≡ same (part (now (text .entry)) a e) (nameAt keywords k) ⌝ }
+{
+    if 32 < e - a {
+        return false;
+    }
+    words::is_keyword(words::word(text, a, e), k)
+}
+
 // The keyword with the number k.
 fn want_key(text: &[u8], at: usize, k: usize) -> Step
     requires { ⌜ at ≤ length (now text) ⌝ }
@@ -180,7 +192,7 @@ fn want_key(text: &[u8], at: usize, k: usize) -> Step
     let a = w.start;
     let e = w.end;
     Step {
-        there: keyword_between(text, a, e) == k,
+        there: is_key_between(text, a, e, k),
         end: e,
     }
 }

@@ -49,7 +49,7 @@ fn wide(x: u8) -> usize
 }
 
 // Whether place k holds the word.
-fn holds(names: &[u8], places: usize, k: usize, word: &[u8]) -> bool
+pub fn holds(names: &[u8], places: usize, k: usize, word: &[u8]) -> bool
     requires { ⌜ length (now names) ≡ places * 33 ⌝ }
     requires { ⌜ k < places ⌝ }
     requires { ⌜ short (now word) ≡ true ⌝ }

@@ -1,8 +1,8 @@
 -- What the functions of the queries find on the way.
 use mathlib.Core.Bool.{Bool}
-use mathlib.Core.List.{List}
+use mathlib.Core.List.{List, map}
 use mathlib.Core.Path.{_≡_}
-use Prim.Native.Nat.{_%_, _/_, _<_, ℕ}
+use Prim.Native.Nat.{_%_, _*_, _/_, _<_, ℕ}
 use lib.ListN.{getD, length}
 use Rattle.model.specs.Book.{Book, Specs, Systems, facilities, hasVersion, isDefined, isModule, provides, specified, usable}
 use Rattle.model.specs.Lists.{rising}
@@ -46,7 +46,12 @@ flat test k = test (k / 64) (k % 64)
 unfoldable pub rowIn : List ℕ → ℕ → Bool
 rowIn t = flat (λ c. bit (getD t c 0))
 
--- Of the rows that pass the test f, those below k are written into the slice that held old: a of them.
-pub record WrittenTo (f : ℕ → Bool) (old : List ℕ) (k a : ℕ) (out : List ℕ) : Type 0 where
+-- Of the numbers that pass the test f, those below k are written into the slice that held old, n as g n: a of them.
+pub record WrittenTo (g : ℕ → ℕ) (f : ℕ → Bool) (old : List ℕ) (k a : ℕ) (out : List ℕ) : Type 0 where
   pub at : a ≡ count k f
-  pub is : out ≡ filled (rising k f) old
+  pub is : out ≡ filled (map g (rising k f)) old
+
+-- The rows of the components below c are written into the slice that held old: a of them.
+pub record RowsTo (t old : List ℕ) (c a : ℕ) (out : List ℕ) : Type 0 where
+  pub at : a ≡ count (c * 64) (rowIn t)
+  pub is : out ≡ filled (rising (c * 64) (rowIn t)) old

@@ -4,18 +4,21 @@ use mathlib.Core.List.{List, [], _++_, _∷_, map, map-map}
 use mathlib.Core.Path.{_∙_, _≡_, ap, ap₂, refl, sym}
 use Prim.Native.Nat.{_%_, _*_, _+_, _-_, _/_, _<_, suc, zero, ℕ}
 use native.Mathlib.Omega.{arith}
+use lib.ListN.{getD, length, length-append, length-map}
 use Rattle.model.specs.Lists.{from, keep, rising}
 use Rattle.model.specs.Queries.{pairsFrom, risingPairs}
-use Rattle.queries.specs.Found.{flat}
+use Rattle.queries.specs.Found.{flat, rowIn}
 use Rattle.queries.specs.Listed.{rowOf}
-use Rattle.theorems.specs.RisingLaws.{from-split}
+use Rattle.sets.specs.Sets.{Set, bit}
+use Rattle.sets.specs.Tests.{count}
+use Rattle.theorems.specs.RisingLaws.{from-split, rising-length}
 
 map-keep : {A : Type 0} (g : ℕ → A) (b : Bool) (x : ℕ) (xs : List ℕ) → map g (keep b x xs) ≡ keep b (g x) (map g xs)
 unfolding keep
 map-keep g true x xs = refl
 map-keep g false x xs = refl
 
-map-append : {A B : Type 0} (g : A → B) (xs ys : List A) → map g (xs ++ ys) ≡ map g xs ++ map g ys
+pub map-append : {A B : Type 0} (g : A → B) (xs ys : List A) → map g (xs ++ ys) ≡ map g xs ++ map g ys
 map-append g [] ys = refl
 map-append g (x ∷ xs) ys = ap (λ zs. g x ∷ zs) (map-append g xs ys)
 
@@ -57,3 +60,28 @@ pairs-flat (suc k) c test =
 pub rows-flat : (test : ℕ → ℕ → Bool) → map rowOf (risingPairs test) ≡ rising 2048 (flat test)
 unfolding risingPairs rising
 rows-flat test = pairs-flat 32 0 test
+
+-- ---- component by component
+
+module _ (t : List ℕ) (c : ℕ) where
+  abbrev here : Set
+  here = bit (getD t c 0)
+
+  -- the rows of the components below c, and those of c
+  pub rows-more : rising ((c + 1) * 64) (rowIn t) ≡ rising (c * 64) (rowIn t) ++ map (λ v. rowOf (c, v)) (rising 64 here)
+  unfolding rising rowIn
+  rows-more =
+      let e₁ : (c + 1) * 64 - c * 64 ≡ 64 = omega arith in
+      let e₂ : 0 + c * 64 ≡ c * 64 = omega arith in
+      from-split (c * 64) ((c + 1) * 64) 0 (rowIn t) (omega arith)
+      ∙ ap (λ (xs : List ℕ). from (c * 64) 0 (rowIn t) ++ xs) (ap₂ (λ (x y : ℕ). from x y (rowIn t)) e₁ e₂
+      ∙ sym (row-flat c (λ d. bit (getD t d 0))) ∙ map-map rowOf (λ v. (c, v)) (rising 64 here))
+
+  count-more : count ((c + 1) * 64) (rowIn t) ≡ count (c * 64) (rowIn t) + count 64 here
+  count-more =
+      sym (rising-length ((c + 1) * 64) (rowIn t)) ∙ ap length rows-more ∙ length-append (rising (c * 64) (rowIn t)) _
+      ∙ ap₂ _+_ (rising-length (c * 64) (rowIn t)) (length-map (rising 64 here) (λ v. rowOf (c, v)) ∙ rising-length 64 here)
+
+  -- a loop that counts them in s
+  pub rows-counted : (s n : ℕ) → s ≡ count (c * 64) (rowIn t) → n ≡ count 64 here → s + n ≡ count ((c + 1) * 64) (rowIn t)
+  rows-counted s n e en = ap₂ _+_ e en ∙ sym count-more

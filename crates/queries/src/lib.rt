@@ -2,7 +2,7 @@
 // answers 0 with what was found.
 ghost use mathlib.Core.Path.{_≡_};
 ghost use mathlib.Core.Bool.{true};
-ghost use mathlib.Core.List.{List};
+ghost use mathlib.Core.List.{List, map};
 ghost use Prim.Native.Nat.{ℕ, _<_, _≤_};
 ghost use lib.ListN.{getD, length};
 ghost use Rattle.sets.specs.Sets.{bit};
@@ -16,7 +16,7 @@ ghost use Rattle.model.specs.Questions.{firstNo};
 ghost use Rattle.model.specs.Queries.{SUPPLIES, NEEDS, CHOICE, STANDARD, UNDEFINED, UNUSED, WHEREUSED, theVersion};
 ghost use Rattle.model.specs.Queries as model;
 ghost use Rattle.queries.specs.Replied.{Replied, repliedTo, ofComponent, ofPair, numbersIn, facilitiesIn, componentsIn};
-ghost use Rattle.queries.specs.Listed.{Listed, fitted};
+ghost use Rattle.queries.specs.Listed.{Listed, fitted, rowOf};
 ghost use Rattle.queries.specs.Found.{undefinedAt, used, unusedAt, usesAt, chosenAt, Chosen, rowIn};
 use book::Book;
 
@@ -193,12 +193,11 @@ fn chosen_rows<'a>(sets: &'a [u64; 576], numbers: &'a [u8; 8768], wanted: u64) -
     out
 }
 
-// Whether the pair of row k is chosen.
-fn is_chosen(chosen: &[u64; 32], k: usize) -> bool
-    requires { ⌜ k < 2048 ⌝ }
-    ensures { λ r. ⌜ r ≡ rowIn (now (chosen .entry)) k ⌝ }
+// How many versions a set holds.
+fn count_versions(versions: u64) -> usize
+    ensures { λ r. ⌜ r ≡ count 64 (bit versions) ⌝ }
 {
-    sets::member(chosen[k / 64], k % 64)
+    sets::count(versions) as usize
 }
 
 // How many pairs are chosen.
@@ -206,20 +205,38 @@ fn count_rows(chosen: &[u64; 32]) -> usize
     ensures { λ r. ⌜ r ≡ count 2048 (rowIn (now (chosen .entry))) ⌝ }
 {
     let mut found = 0;
-    for pair in 0..2048 {
-        if is_chosen(chosen, pair) {
-            found += 1;
-        }
+    for c in 0..32 {
+        found += count_versions(chosen[c]);
     }
     found
 }
 
-// The number of a row as it stands in the slice.
-fn row(k: usize) -> u16
-    requires { ⌜ k < 2048 ⌝ }
-    ensures { λ r. ⌜ r ≡ k ⌝ }
+// The row of version v of component c as it stands in the slice.
+fn row(c: usize, v: usize) -> u16
+    requires { ⌜ (c < 32) × (v < 64) ⌝ }
+    ensures { λ r. ⌜ r ≡ rowOf (c, v) ⌝ }
 {
-    k as u16
+    (c * 64 + v) as u16
+}
+
+// Writes the rows of these versions of component c, and says how many.
+fn write_versions(c: usize, versions: u64, out: &mut [u16]) -> usize
+    requires { ⌜ c < 32 ⌝ }
+    requires { ⌜ count 64 (bit versions) ≤ length (now out) ⌝ }
+    ensures { λ r. ⌜ r ≡ count 64 (bit versions) ⌝ }
+    ensures { λ r. ⌜ now (out .exit) ≡ filled (map (λ v. rowOf (c, v)) (rising 64 (bit versions))) (now (out .entry)) ⌝ }
+{
+    if versions == 0 {
+        return 0;
+    }
+    let mut at = 0;
+    for v in 0..64 {
+        if sets::member(versions, v) {
+            out[at] = row(c, v);
+            at += 1;
+        }
+    }
+    at
 }
 
 // Writes the pairs that are chosen.
@@ -228,11 +245,8 @@ fn write_rows<'a>(chosen: &'a [u64; 32], out: &mut [u16])
     ensures { λ _. ⌜ now (out .exit) ≡ filled (rising 2048 (rowIn (now (chosen .entry)))) (now (out .entry)) ⌝ }
 {
     let mut at = 0;
-    for k in 0..2048 {
-        if is_chosen(chosen, k) {
-            out[at] = row(k);
-            at += 1;
-        }
+    for c in 0..32 {
+        at += write_versions(c, chosen[c], &mut out[at..]);
     }
 }
 

@@ -1,6 +1,6 @@
 -- A word is a name, or an implementation: a law for each way out of the code.
 use mathlib.Core.Bool.{Bool, _&&_, false, true}
-use mathlib.Core.List.{[], _∷_}
+use mathlib.Core.List.{List, [], _∷_}
 use mathlib.Core.Logic.{inl, inr}
 use mathlib.Core.Path.{_∙_, _≡_, ap, ap₂, refl, sym}
 use Prim.Native.Nat.{_<_, _≤_, suc, ℕ}
@@ -13,14 +13,24 @@ use Rattle.model.specs.Maps.{isSome}
 use Rattle.sets.specs.TestLaws.{==-in, ==-out, and-false, and-in, and-l, and-r, bool?, clash, fails, if-true, iff→≡}
 use Rattle.sets.specs.TestLaws.{not-in, not-out, ≤?-in, ≤?-out}
 use Rattle.sets.specs.Tests.{_&_, _==_, _≤?_, if_then_else_}
-use Rattle.text.specs.Bytes.{Text, alnum, among, implByte, keywords, nameByte, nameWord, short, validImplementation, validName}
-use Rattle.text.specs.Tables.{place}
+use Rattle.text.specs.Bytes.{Text, alnum, among, implByte, keywords, nameByte, nameWord, same, short, validImplementation}
+use Rattle.text.specs.Bytes.{validName}
+use Rattle.text.specs.Tables.{Table, nameAt, place}
 use Rattle.text.specs.Tokens.{past}
 use Rattle.text_theorems.specs.Places.{place-among, place-there}
 use Rattle.names.specs.declared.Found.{Found}
 use Rattle.names.specs.declared.Found.the-variants.{At, Nothing}
-use Rattle.names.specs.Stored.{answered}
+use Rattle.names.specs.Stored.{answered, nameIn, tableOf}
+use Rattle.names.specs.UpToLastLaws.{last-at}
 use Rattle.words.specs.Reading.{RunsTo, inRun}
+
+-- ---- keywords
+
+-- what the bytes hold at a place is the name there of the table that they are
+pub held-at : (n : ℕ) (names : List ℕ) (w : Text) (k : ℕ) (r : Bool) → k < n → r ≡ same w (nameIn names k)
+    → (t : Table) → tableOf n names ≡ t → r ≡ same w (nameAt t k)
+unfolding tableOf
+held-at n names w k r h e t q = e ∙ ap (same w) (sym (last-at n (nameIn names) k h) ∙ ap (λ (x : Table). nameAt x k) q)
 
 -- ---- a word that was read
 

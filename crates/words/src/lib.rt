@@ -4,8 +4,8 @@ ghost use mathlib.Core.Path.{_≡_};
 ghost use mathlib.Core.Bool.{true};
 ghost use Prim.Native.Nat.{_<_, _≤_, _-_};
 ghost use lib.ListN.{length, take, drop};
-ghost use Rattle.text.specs.Bytes.{short, white, alnum, isMark, keywords, nameWord, validName, validImplementation};
-ghost use Rattle.text.specs.Tables.{place};
+ghost use Rattle.text.specs.Bytes.{same, short, white, alnum, isMark, keywords, nameWord, validName, validImplementation};
+ghost use Rattle.text.specs.Tables.{nameAt, place};
 ghost use Rattle.text.specs.Tokens.{tokenAt, nextToken};
 ghost use Rattle.words.specs.Reading.{passes, staysOpen, inRun, Skips, RunsTo, quotedFrom, Reads};
 ghost use Rattle.names.specs.Stored.{answered};
@@ -208,6 +208,15 @@ pub fn keyword_of(word: &[u8]) -> names::Found
     ensures { λ r. ⌜ answered r ≡ place keywords (now (word .entry)) ⌝ }
 {
     names::lookup(&KEYWORDS, 28, word)
+}
+
+// Whether a word is the keyword with the number k.
+pub fn is_keyword(word: &[u8], k: usize) -> bool
+    requires { ⌜ k < 28 ⌝ }
+    requires { ⌜ short (now word) ≡ true ⌝ }
+    ensures { λ r. ⌜ r ≡ same (now (word .entry)) (nameAt keywords k) ⌝ }
+{
+    names::holds(&KEYWORDS, 28, k, word)
 }
 
 // Whether a word that was read is a name.

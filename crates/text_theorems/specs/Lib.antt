@@ -34,3 +34,4 @@ pub mod BookNumbers
 pub mod ValidTables
 pub mod Changes
 pub mod SessionPasses
+pub mod FullTables

@@ -14,13 +14,14 @@ use Rattle.language.specs.Readers.{Answers}
 use Rattle.language.specs.ProductionLaws.{at-end}
 use Rattle.language.specs.TokenLaws.{answer-yes}
 use Rattle.model.specs.Book.{Book, components, facilities, implementations, versions}
-use Rattle.model.specs.Commands.{Command, after}
-use Rattle.model.specs.PlainBook.{answer, next}
+use Rattle.model.specs.Commands.{Command}
+use Rattle.model.specs.PlainBook.{answer}
 use Rattle.names.specs.Stored.{tablesOf}
 use Rattle.rules.specs.Test.{passes}
 use Rattle.sets.specs.Tests.{_&_}
 use Rattle.sets.specs.TestLaws.{and-l, and-r, and-true, clash, if-false, if-true}
 use Rattle.states.specs.Carried.{Decides}
+use Rattle.states.specs.CarriedLaws.{told-next}
 use Rattle.states.specs.State.{Ready, stateOf}
 use Rattle.states.specs.declared.Decision.{Decision}
 use Rattle.text.specs.Bytes.{Text}
@@ -45,16 +46,6 @@ decided-no : (a : ℕ) (s s′ : State) → a ≢ 0 → decided a s ≡ decided 
 unfolding decided
 decided-no zero s s′ h = absurd (h refl)
 decided-no (suc a) s s′ h = refl
-
--- the state that counts where the answer is 0 has the plain book's next, which is the changed book there
-told-next : (b : Book) (t : Tables) (k : Command) → told b t k ≡ decided (answer b k) (record { book = next b k; tables = t })
-unfolding told next
-told-next b t k = by (answer b k)
-  where
-    by : (m : ℕ) → decided m (record { book = after b k; tables = t })
-        ≡ decided m (record { book = elim m [ zero ↦ after b k | suc x ↦ b ]; tables = t })
-    by zero = refl
-    by (suc m) = unfold decided in refl
 
 told-called : (s n : List ℕ) (k : Command) (a : ℕ) (s′ n′ : List ℕ) → passes s n ≡ true → Called s n k a s′ n′
     → (t : Tables) → told (plainOf s n) t k ≡ decided a (record { book = plainOf s′ n′; tables = t })

@@ -10,7 +10,6 @@ use lib.ListN.{length}
 use Rattle.book.specs.Plain.{plainOf}
 use Rattle.language.specs.Choices.{ChoiceAsked}
 use Rattle.language.specs.Readers.{Answers}
-use Rattle.language.specs.TokenLaws.{answer-yes}
 use Rattle.language.specs.Words.{OneSaid, PairSaid}
 use Rattle.language.specs.declared.Known.{Known}
 use Rattle.language.specs.declared.Parts.{Parts as PairRead}
@@ -29,9 +28,10 @@ use Rattle.sets.specs.Sets.{bit}
 use Rattle.sets.specs.TestLaws.{if-false, if-true}
 use Rattle.sets.specs.Tests.{if_then_else_}
 use Rattle.states.specs.Carried.{Carried}
+use Rattle.states.specs.CarriedLaws.{answers-as}
 use Rattle.states.specs.State.{stateOf}
 use Rattle.text.specs.Bytes.{Text, short}
-use Rattle.text.specs.Language.{CHOICE, Name, Reader, Said, choice, ofOne, ofPair}
+use Rattle.text.specs.Language.{CHOICE, Name, Said, choice, ofOne, ofPair}
 use Rattle.text.specs.Session.{State, afterwards, asked, carry, decimal, forComponent, forPair, lines, ofComponent, ofVersion, refused, row, rows}
 use Rattle.text.specs.Tables.{numbers, place}
 use Rattle.text_theorems.specs.Places.{place-name}
@@ -42,15 +42,6 @@ use Rattle.asking.specs.declared.OfComponent.{OfComponent}
 use Rattle.asking.specs.declared.OfComponent.the-variants.{Supplies, Standard, WhereUsed}
 use Rattle.asking.specs.declared.OfVersion.{OfVersion}
 use Rattle.asking.specs.declared.OfVersion.the-variants.{Needs, Parts}
-
--- ---- what was read
-
-module _ {A : Type 0} (p : Reader A) (Q R : A → Type 0) (t : Text) (at e : ℕ) (there : Bool) (r : Answers p Q t at there e) (n : not there ≡ false) where
-  -- what was read may be said otherwise
-  answers-as : ((x : A) → Q x → R x) → Answers p R t at true e
-  answers-as f =
-      let g = r .yes (not-false there n) in
-      answer-yes p R t at e (record { value = g .value; is = g .is; took = f (g .value) (g .took); from = g .from; inside = g .inside })
 
 -- ---- a component
 

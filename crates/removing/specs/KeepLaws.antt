@@ -8,16 +8,16 @@ use native.Mathlib.Omega.{arith}
 use Rattle.book.specs.Plain.{plainOf}
 use Rattle.commands.specs.Outcome.{Called, answered}
 use Rattle.model.specs.Book.{Book}
-use Rattle.model.specs.Commands.{Command, after}
+use Rattle.model.specs.Commands.{Command}
 use Rattle.model.specs.PlainBook.{answer, next}
 use Rattle.names.specs.Stored.{tablesOf}
 use Rattle.rules.specs.Test.{passes}
 use Rattle.sets.specs.TestLaws.{if-true}
 use Rattle.states.specs.Carried.{Decides}
+use Rattle.states.specs.CarriedLaws.{told-next}
 use Rattle.states.specs.State.{Ready, stateOf}
 use Rattle.text.specs.Language.{Said}
 use Rattle.text.specs.Session.{State, carry, changed, decided, refused, told}
-use Rattle.text.specs.Tables.{Tables}
 
 -- ---- what was called
 
@@ -50,16 +50,6 @@ refused-is (suc m) x ne = refl
 -- no command was carried out
 pub unchanged : (x : State) (m : ℕ) (k : Said) → (m ≡ 0 → ⊥) → carry x k ≡ refused m → Decides x x m k
 unchanged x m k ne e = record { is = e ∙ refused-is m x ne; refused = λ _. refl }
-
--- where the answer is 0 the next book is the one after the command
-told-next : (b : Book) (t : Tables) (k : Command) → told b t k ≡ decided (answer b k) (record { book = next b k; tables = t })
-unfolding told next
-told-next b t k = by (answer b k)
-  where
-    by : (m : ℕ) → decided m (record { book = after b k; tables = t })
-        ≡ decided m (record { book = elim m as (λ m. Book) [ zero ↦ after b k | suc x ↦ b ]; tables = t })
-    by zero = refl
-    by (suc m) = unfold decided in refl
 
 decided-same : (m : ℕ) (x y : State) → (m ≡ 0 → x ≡ y) → decided m x ≡ decided m y
 unfolding decided

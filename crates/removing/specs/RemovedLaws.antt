@@ -10,7 +10,6 @@ use borrow.Author.Tests.{not-false}
 use Rattle.book.specs.Plain.{plainOf}
 use Rattle.commands.specs.Outcome.{Called}
 use Rattle.language.specs.Readers.{Answers}
-use Rattle.language.specs.TokenLaws.{answer-yes}
 use Rattle.language.specs.Words.{OneSaid, PairSaid}
 use Rattle.language.specs.declared.Parts.{Parts}
 use Rattle.model.specs.Book.{Book, components, versions}
@@ -20,9 +19,10 @@ use Rattle.names.specs.declared.Found.{Found}
 use Rattle.names.specs.declared.Found.the-variants.{At, Nothing}
 use Rattle.sets.specs.Tests.{if_then_else_}
 use Rattle.states.specs.Carried.{Decides}
+use Rattle.states.specs.CarriedLaws.{answers-as}
 use Rattle.states.specs.State.{Ready, stateOf}
 use Rattle.text.specs.Bytes.{Text}
-use Rattle.text.specs.Language.{Name, Reader, Said, ofOne, ofPair}
+use Rattle.text.specs.Language.{Name, Said, ofOne, ofPair}
 use Rattle.text.specs.Session.{Result, State, carry, forComponent, forPair, ofComponent, ofVersion, refused, told}
 use Rattle.text.specs.Tables.{place}
 use Rattle.text_theorems.specs.Places.{place-name}
@@ -34,15 +34,6 @@ use Rattle.removing.specs.declared.Component.the-variants as component
 use Rattle.removing.specs.declared.Version.{Version}
 use Rattle.removing.specs.declared.Version.the-variants as version
 use Rattle.removing.specs.KeepLaws.{carried-out, unchanged}
-
--- ---- a command that was read
-
--- what holds of the command that was read
-said-of : (p : Reader Said) (Q R : Said → Type 0) (t : Text) (at e : ℕ) (there : Bool) → Answers p Q t at there e → notᵇ there ≡ false
-    → ((x : Said) → Q x → R x) → Answers p R t at true e
-said-of p Q R t at e there r n f =
-    let g = r .yes (not-false there n) in
-    answer-yes p R t at e (record { value = g .value; is = g .is; took = f (g .value) (g .took); from = g .from; inside = g .inside })
 
 -- ---- delspec, delmod, delsys
 
@@ -67,7 +58,7 @@ module _ (kind : Component) (t : Text) (at a e : ℕ) (there : Bool)
   one-took = r (removed kind) .yes (not-false there y) .took
 
   one-read : (R : Said → Type 0) → R (removed kind (part t a e)) → Answers (ofOne (removed kind)) R t at true e
-  one-read R x = said-of _ _ R t at e there (r (removed kind)) y (λ k q. subst R (sym (q .is)) x)
+  one-read R x = answers-as _ _ R t at e there (r (removed kind)) y (λ k q. subst R (sym (q .is)) x)
 
   module _ (s n c v f i : List ℕ) (o : Found) (q : answered o ≡ place (tableOf components c) (part t a e)) where
     abbrev taken : ℕ → Result
@@ -136,7 +127,7 @@ module _ (kind : Version) (t : Text) (at : ℕ) (r : Parts) (g : (h : Name → N
   pair-took = g (versionRemoved kind) .yes (not-false (r .there) y) .took
 
   pair-read : (R : Said → Type 0) → R (versionRemoved kind component-name version-name) → Answers (ofPair (versionRemoved kind)) R t at true (r .to)
-  pair-read R x = said-of _ _ R t at (r .to) (r .there) (g (versionRemoved kind)) y (λ k q. subst R (sym (q .is)) x)
+  pair-read R x = answers-as _ _ R t at (r .to) (r .there) (g (versionRemoved kind)) y (λ k q. subst R (sym (q .is)) x)
 
   module _ (s n c v f i : List ℕ) (o : Found) (q : answered o ≡ place (tableOf components c) component-name) where
     abbrev version-taken : ℕ → ℕ → Result

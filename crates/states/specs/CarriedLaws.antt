@@ -1,18 +1,24 @@
--- The row of one of the ten commands; a query that was read.
-use mathlib.Core.Bool.{false, true}
+-- The row of one of the ten commands; what was read.
+use mathlib.Core.Bool.{Bool, false, not, true}
 use mathlib.Core.List.{List}
 use mathlib.Core.Path.{_∙_, _≡_, ap, refl, subst, sym}
 use Prim.Native.Nat.{_≤_, suc, zero, ℕ}
 use native.Mathlib.Nat.{le-refl}
 use native.Mathlib.Omega.{arith}
+use borrow.Author.Tests.{not-false}
 use lib.ListN.{length}
 use Rattle.language.specs.Readers.{Answers}
+use Rattle.language.specs.TokenLaws.{answer-yes}
 use Rattle.listing.specs.Room.{Puts}
 use Rattle.listing.specs.declared.Room.{Room}
+use Rattle.model.specs.Book.{Book}
+use Rattle.model.specs.Commands.{Command, after}
+use Rattle.model.specs.PlainBook.{answer, next}
 use Rattle.sets.specs.TestLaws.{clash}
 use Rattle.text.specs.Bytes.{Text}
-use Rattle.text.specs.Language.{Said, give}
-use Rattle.text.specs.Session.{State, afterwards, decided, decimal, lines, row}
+use Rattle.text.specs.Language.{Reader, Said, give}
+use Rattle.text.specs.Session.{State, afterwards, decided, decimal, lines, row, told}
+use Rattle.text.specs.Tables.{Tables}
 use Rattle.states.specs.Carried.{Carried, Decides, Unread}
 
 decided-lines : (i a : ℕ) (s : State) → lines i (decided a s) ≡ row i (decimal a)
@@ -32,7 +38,26 @@ decides-carried i a s s′ p q old new x d r = record {
   state = decided-state a s s′ (d .refused) ∙ sym (ap (afterwards s) (d .is));
 }
 
--- ---- a query that was read
+-- ---- one of the ten commands by numbers
+
+-- the state that counts where the answer is 0 has the plain book's next, which is the changed book there
+pub told-next : (b : Book) (t : Tables) (k : Command) → told b t k ≡ decided (answer b k) (record { book = next b k; tables = t })
+unfolding told next
+told-next b t k = by (answer b k)
+  where
+    by : (m : ℕ) → decided m (record { book = after b k; tables = t })
+        ≡ decided m (record { book = elim m [ zero ↦ after b k | suc x ↦ b ]; tables = t })
+    by zero = refl
+    by (suc m) = unfold decided in refl
+
+-- ---- what was read, and what was not
+
+-- what was read may be said otherwise
+pub answers-as : {A : Type 0} (p : Reader A) (Q R : A → Type 0) (t : Text) (at e : ℕ) (there : Bool) → Answers p Q t at there e → not there ≡ false
+    → ((x : A) → Q x → R x) → Answers p R t at true e
+answers-as p Q R t at e there r n f =
+    let g = r .yes (not-false there n) in
+    answer-yes p R t at e (record { value = g .value; is = g .is; took = f (g .value) (g .took); from = g .from; inside = g .inside })
 
 -- a query of one word
 pub asked-alone : (x : Said) {R : Said → Type 0} {t : Text} {at : ℕ} → at ≤ length t → R x → Answers (give x) R t at true at

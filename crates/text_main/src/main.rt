@@ -16,6 +16,17 @@ const BEFORE: u8 = 46;
 
 // ---- lines
 
+fn print_number(before: &[u8], n: u64) {
+    io::write_all(1, before);
+    io::print_decimal(1, n);
+}
+
+// A number at the end of a line.
+fn print_last(before: &[u8], n: u64) {
+    print_number(before, n);
+    io::write_all(1, b"\n");
+}
+
 fn one_if_untouched(byte: u8) -> usize
     ensures { λ r. ⌜ r ≤ 1 ⌝ }
 {
@@ -42,19 +53,14 @@ fn show_slice(out: &[u8], len: usize) {
         return;
     }
     io::write_all(1, words::word(out, 0, len));
-    io::write_all(1, b"untouched behind it: ");
-    io::print_decimal(1, untouched_from(out, len) as u64);
-    io::write_all(1, b"\n");
+    print_last(b"untouched behind it: ", untouched_from(out, len) as u64);
 }
 
 fn show_in(label: &[u8], b: Book, t: Names, out: &mut [u8]) {
     let r = handed::text_of(b, t, out);
     io::write_all(1, label);
-    io::write_all(1, b": ");
-    io::print_decimal(1, r.answer as u64);
-    io::write_all(1, b", bytes ");
-    io::print_decimal(1, r.len as u64);
-    io::write_all(1, b"\n");
+    print_number(b": ", r.answer as u64);
+    print_last(b", bytes ", r.len as u64);
     show_slice(out, r.len);
 }
 
@@ -135,9 +141,7 @@ fn tables(comp_words: &[u8], ver_words: &[u8], fac_words: &[u8], impl_words: &[u
 // The Book that a call leaves, with a line where it refuses.
 fn taken(o: Outcome) -> Book {
     if o.answer != 0 {
-        io::write_all(1, b"refused: ");
-        io::print_decimal(1, o.answer as u64);
-        io::write_all(1, b"\n");
+        print_last(b"refused: ", o.answer as u64);
     }
     o.book
 }
@@ -163,13 +167,13 @@ fn teaching() -> Book {
     taken(commands::add_sys(b, 3, &used, &[3], &[3], &used, &[LEFT_OUT; 3]))
 }
 
+// The names of the teaching book, with these for its components.
+fn teaching_names_with(comp_words: &[u8]) -> Names {
+    tables(comp_words, b"one v2 p a", b"temp cool hold", b"")
+}
+
 fn teaching_names() -> Names {
-    tables(
-        b"probe valve loop tank",
-        b"one v2 p a",
-        b"temp cool hold",
-        b"",
-    )
+    teaching_names_with(b"probe valve loop tank")
 }
 
 // The text of the teaching book has 248 bytes.
@@ -192,12 +196,15 @@ fn figure_specs() -> Book {
     spec(b, 3, 1984, 4, 4)
 }
 
-fn figure() -> Book {
+fn figure_modules() -> Book {
     let b = taken(commands::add_mod(figure_specs(), 1, &[0, 1], &[0, 1]));
     let b = taken(commands::add_mod(b, 2, &[2, 3], &[2, 3]));
-    let b = taken(commands::add_mod(b, 3, &[4], &[4]));
+    taken(commands::add_mod(b, 3, &[4], &[4]))
+}
+
+fn figure() -> Book {
     taken(commands::add_sys(
-        b,
+        figure_modules(),
         0,
         &[1, 2, 3],
         &[0, 1],
@@ -313,32 +320,28 @@ fn show_missing(k: Book, t: Names) {
     let mut long = t;
     long.comps[0] = 33;
     show(b"a length above 32", k, long);
-    let mut required = figure_names();
-    required.facs[66] = 0;
-    show(
-        b"no name for a facility that is only required",
-        figure(),
-        required,
-    );
+}
+
+// The facility rcb of Fig. 1.
+fn show_missing_required() {
+    let mut t = figure_names();
+    t.facs[66] = 0;
+    show(b"no name for a facility that is only required", figure(), t);
+}
+
+fn show_missing_implementation() {
     let one = tables(b"loop", b"p q", b"", b"end");
     show(b"no name for an implementation", module(), one);
 }
 
-fn show_invalid(k: Book, t: Names) {
-    let keyword = tables(
-        b"probe valve end tank",
-        b"one v2 p a",
-        b"temp cool hold",
-        b"",
-    );
+fn show_no_word(k: Book) {
+    let keyword = teaching_names_with(b"probe valve end tank");
     show(b"a keyword as a name", k, keyword);
-    let hyphen = tables(
-        b"probe valve -loop tank",
-        b"one v2 p a",
-        b"temp cool hold",
-        b"",
-    );
+    let hyphen = teaching_names_with(b"probe valve -loop tank");
     show(b"a name that begins with a hyphen", k, hyphen);
+}
+
+fn show_invalid(k: Book, t: Names) {
     let mut blank = t;
     blank.comps[2] = 32;
     show(b"a name with a space", k, blank);
@@ -359,22 +362,41 @@ fn show_no_book(k: Book, t: Names) {
     show_in_none(b"no book, empty slice", robbed, t);
 }
 
+// ---- all
+
+fn show_empty(t: Names) {
+    show(b"empty book", book::fresh(), names::no_names());
+    show_in_none(b"empty book, empty slice", book::fresh(), t);
+}
+
+fn show_module() {
+    let t = tables(b"loop", b"p q", b"", b"end a/b.c-d_e");
+    show(b"module", module(), t);
+}
+
+fn show_books(k: Book, t: Names) {
+    show_teaching(k, t);
+    show(b"Fig. 1", figure(), figure_names());
+    show_empty(t);
+    show(b"systems held back", held_back(), held_back_names());
+    show(b"order of bytes", ordered(), ordered_names());
+    show_module();
+}
+
+// The question for 25.
+fn show_refused(k: Book, t: Names) {
+    show_twice(k, t);
+    show_missing(k, t);
+    show_missing_required();
+    show_missing_implementation();
+    show_no_word(k);
+    show_invalid(k, t);
+    show_no_book(k, t);
+}
+
 fn main() {
     let k = teaching();
     let t = teaching_names();
-    show_teaching(k, t);
-    show(b"Fig. 1", figure(), figure_names());
-    show(b"empty book", book::fresh(), names::no_names());
-    show_in_none(b"empty book, empty slice", book::fresh(), t);
-    show(b"systems held back", held_back(), held_back_names());
-    show(b"order of bytes", ordered(), ordered_names());
-    show(
-        b"module",
-        module(),
-        tables(b"loop", b"p q", b"", b"end a/b.c-d_e"),
-    );
-    show_twice(k, t);
-    show_missing(k, t);
-    show_invalid(k, t);
-    show_no_book(k, t);
+    show_books(k, t);
+    show_refused(k, t);
 }

@@ -4,6 +4,7 @@ use mathlib.Core.List.{List}
 use mathlib.Core.Path.{_≡_}
 use Prim.Native.Nat.{ℕ}
 use Rattle.model.specs.Commands.{Command}
+use Rattle.sets.specs.Tests.{if_then_else_}
 use Rattle.states.specs.declared.Decision.{Decision}
 use Rattle.text.specs.Language.{Said}
 use Rattle.text.specs.Session.{State, add, carry}
@@ -20,8 +21,9 @@ pub record Adds (t t′ : Tables) (room : Bool) (P : Command → Type 0) (x : Sa
   pub asks : room ≡ true → P (numbered t′)
 
 -- "Text questions come before all others. Is the command of the language? no: 23 .. Adding commands: is there a place for each new name?
--- no: 24." The decision d where one of the two has its no: `there` says that it is not the first, and e is then the command's end.
-pub record Unasked (there : Bool) (e : ℕ) (d : Decision) : Type 0 where
+-- no: 24." The decision d where one of the two has its no: `there` says that it is not the first. Then e is the command's end; else it
+-- was read from position `at` on.
+pub record Unasked (there : Bool) (at e : ℕ) (d : Decision) : Type 0 where
   pub there-is : d .there ≡ there
-  pub end-is : there ≡ true → d .end ≡ e
-  pub answer-is : there ≡ true → d .answer ≡ 24
+  pub end-is : d .end ≡ (if there then e else at)
+  pub answer-is : d .answer ≡ (if there then 24 else 0)

@@ -12,16 +12,14 @@ use Rattle.commands.specs.Outcome.{Called}
 use Rattle.language.specs.Entering.{Kept}
 use Rattle.language.specs.Readers.{Answers}
 use Rattle.language.specs.ProductionLaws.{at-end}
-use Rattle.language.specs.TokenLaws.{answer-yes}
 use Rattle.model.specs.Book.{Book, components, facilities, implementations, versions}
 use Rattle.model.specs.Commands.{Command}
-use Rattle.model.specs.PlainBook.{answer}
 use Rattle.names.specs.Stored.{tablesOf}
 use Rattle.rules.specs.Test.{passes}
 use Rattle.sets.specs.Tests.{_&_}
 use Rattle.sets.specs.TestLaws.{and-l, and-r, and-true, clash, if-false, if-true}
-use Rattle.states.specs.Carried.{Decides}
-use Rattle.states.specs.CarriedLaws.{told-next}
+use Rattle.states.specs.Carried.{Decides, Undecided}
+use Rattle.states.specs.CarriedLaws.{answers-as, told-next, was-decided}
 use Rattle.states.specs.State.{Ready, stateOf}
 use Rattle.states.specs.declared.Decision.{Decision}
 use Rattle.text.specs.Bytes.{Text}
@@ -32,13 +30,13 @@ use Rattle.adding.specs.Adding.{Adds, Unasked}
 
 -- ---- the ways out of unasked
 
-pub unasked-unread : (at e : ℕ) (there : Bool) → notᵇ there ≡ true → Unasked there e (record { there = false; end = at; answer = 0 })
+pub unasked-unread : (at e : ℕ) (there : Bool) → notᵇ there ≡ true → Unasked there at e (record { there = false; end = at; answer = 0 })
 unasked-unread at e there h =
-    let z = not-true there h in
-    record { there-is = sym z; end-is = λ y. clash y z; answer-is = λ y. clash y z }
+    let z = not-true there h in record { there-is = sym z; end-is = sym (if-false _ _ _ z); answer-is = sym (if-false _ _ _ z) }
 
-pub unasked-no-place : (e : ℕ) (there : Bool) → notᵇ there ≡ false → Unasked there e (record { there = true; end = e; answer = 24 })
-unasked-no-place e there h = record { there-is = sym (not-false there h); end-is = λ _. refl; answer-is = λ _. refl }
+pub unasked-no-place : (at e : ℕ) (there : Bool) → notᵇ there ≡ false → Unasked there at e (record { there = true; end = e; answer = 24 })
+unasked-no-place at e there h =
+    let y = not-false there h in record { there-is = sym y; end-is = sym (if-true _ _ _ y); answer-is = sym (if-true _ _ _ y) }
 
 -- ---- a command that was asked its questions
 
@@ -93,24 +91,25 @@ second-no a b t h = sym (and-true a b t) ∙ not-true (a && b) h
 
 module _ (s n c v f i : List ℕ) (before : Ready s n c v f i) (p : Reader Said) (t : Text) (at e : ℕ) (there : Bool) (Q : Said → Type 0)
     (read : Answers p Q t at there e) where
-  -- what holds of the command that was read
-  answer-on : (R : Said → Type 0) → there ≡ true → ((x : Said) → Q x → R x) → Answers p R t at true e
-  answer-on R h g =
-      let a = read .yes h in
-      answer-yes p R t at e (record { value = a .value; is = a .is; took = g (a .value) (a .took); from = a .from; inside = a .inside })
-
   module _ (c′ v′ f′ i′ : List ℕ) (room : Bool) (P : Command → Type 0)
       (adds : (x : Said) → Q x → Adds (tablesOf c v f i) (tablesOf c′ v′ f′ i′) room P x) where
-    pub way-unasked : notᵇ (there && room) ≡ true → (d : Decision) → Unasked there e d → Ready s n c v f i
+    pub way-unasked : notᵇ (there && room) ≡ true → (d : Decision) → Unasked there at e d → Ready s n c v f i
         × (Answers p (Decides (stateOf s n c v f i) (stateOf s n c v f i) (d .answer)) t at (d .there) (d .end)
-        × (d .there ≡ false → stateOf s n c v f i ≡ stateOf s n c v f i))
-    way-unasked h d u = (before, (by there refl, λ _. refl))
+        × Undecided at (stateOf s n c v f i) (stateOf s n c v f i) d)
+    way-unasked h d u = (before, (by there refl, none))
       where
+        none : Undecided at (stateOf s n c v f i) (stateOf s n c v f i) d
+        none = record {
+          end = λ z. u .end-is ∙ if-false _ _ _ (sym (u .there-is) ∙ z);
+          answer = λ z. u .answer-is ∙ if-false _ _ _ (sym (u .there-is) ∙ z);
+          state = λ z. refl;
+        }
+
         by : (b : Bool) → there ≡ b → Answers p (Decides (stateOf s n c v f i) (stateOf s n c v f i) (d .answer)) t at (d .there) (d .end)
         by true y =
-            subst (λ (m : ℕ). Answers p (Decides (stateOf s n c v f i) (stateOf s n c v f i) m) t at (d .there) (d .end)) (sym (u .answer-is y))
-            (at-end (u .there-is ∙ y) (u .end-is y)
-            (answer-on _ y (λ x q. no-place s n c v f i c′ v′ f′ i′ room P x (adds x q) (second-no there room y h))))
+            subst (λ (m : ℕ). Answers p (Decides (stateOf s n c v f i) (stateOf s n c v f i) m) t at (d .there) (d .end)) (sym (u .answer-is ∙ if-true _ _ _ y))
+            (at-end (u .there-is ∙ y) (u .end-is ∙ if-true _ _ _ y)
+            (answers-as p Q _ t at e there read y (λ x q. no-place s n c v f i c′ v′ f′ i′ room P x (adds x q) (second-no there room y h))))
         by false z = record { yes = λ y. clash (sym (u .there-is) ∙ y) z; no = λ _. read .no z }
 
     module _ (h : notᵇ (there && room) ≡ false) (a : ℕ) (s′ n′ : List ℕ) (called : (k : Command) → P k → Called s n k a s′ n′) where
@@ -128,15 +127,17 @@ module _ (s n c v f i : List ℕ) (before : Ready s n c v f i) (p : Reader Said)
           outcome-passes s n c v f i c′ v′ f′ i′ room P (g .value) (adds (g .value) (g .took)) has-room (before .passes) a s′ n′ called
 
       pub way-refused : a ≢ 0 → Ready s′ n′ c v f i
-          × (Answers p (Decides (stateOf s n c v f i) (stateOf s′ n′ c v f i) a) t at true e × (true ≡ false → stateOf s′ n′ c v f i ≡ stateOf s n c v f i))
+          × (Answers p (Decides (stateOf s n c v f i) (stateOf s′ n′ c v f i) a) t at true e
+          × Undecided at (stateOf s n c v f i) (stateOf s′ n′ c v f i) (record { there = true; end = e; answer = a }))
       way-refused d = (
         record { passes = way-passes; comps = before .comps; vers = before .vers; facs = before .facs; impls = before .impls },
-        (answer-on _ is-there (λ x q. not-accepted s n c v f i c′ v′ f′ i′ room P x (adds x q) has-room (before .passes) a s′ n′ called d), λ z. clash refl z),
+        (answers-as p Q _ t at e there read is-there (λ x q. not-accepted s n c v f i c′ v′ f′ i′ room P x (adds x q) has-room (before .passes) a s′ n′ called d), was-decided),
       )
 
       pub way-accepted : Kept components c′ → Kept versions v′ → Kept facilities f′ → Kept implementations i′ → a ≡ 0 → Ready s′ n′ c′ v′ f′ i′
-          × (Answers p (Decides (stateOf s n c v f i) (stateOf s′ n′ c′ v′ f′ i′) a) t at true e × (true ≡ false → stateOf s′ n′ c′ v′ f′ i′ ≡ stateOf s n c v f i))
+          × (Answers p (Decides (stateOf s n c v f i) (stateOf s′ n′ c′ v′ f′ i′) a) t at true e
+          × Undecided at (stateOf s n c v f i) (stateOf s′ n′ c′ v′ f′ i′) (record { there = true; end = e; answer = a }))
       way-accepted kc kv kf ki d = (
         record { passes = way-passes; comps = kc; vers = kv; facs = kf; impls = ki },
-        (answer-on _ is-there (λ x q. accepted s n c v f i c′ v′ f′ i′ room P x (adds x q) has-room (before .passes) a s′ n′ called d), λ z. clash refl z),
+        (answers-as p Q _ t at e there read is-there (λ x q. accepted s n c v f i c′ v′ f′ i′ room P x (adds x q) has-room (before .passes) a s′ n′ called d), was-decided),
       )

@@ -9,7 +9,7 @@ ghost use Rattle.language.specs.Readers.{Answers};
 ghost use Rattle.language.specs.Requested.{ModAsks, ModvarAsks, SpecAsks, SysAsks, SysvarAsks};
 ghost use Rattle.model.specs.Commands.{Command};
 ghost use Rattle.rules.specs.Test as test;
-ghost use Rattle.states.specs.Carried.{Decides};
+ghost use Rattle.states.specs.Carried.{Decides, Undecided};
 ghost use Rattle.states.specs.State.{Ready, stateOf};
 ghost use Rattle.text.specs.Language.{add-mod, add-modvar, add-spec, add-sys, add-sysvar};
 ghost use Rattle.adding.specs.Adding.{Unasked};
@@ -76,7 +76,7 @@ fn answer_sysvar(sets: &mut [u64; 576], numbers: &mut [u8; 8768], r: SysvarReque
 
 // Where a text question has its no: the command is not of the language, and only if it is there is no place for one of its names.
 fn unasked(there: bool, at: usize, end: usize) -> Decision
-    ensures { λ r. ⌜ Unasked there end r ⌝ }
+    ensures { λ r. ⌜ Unasked there at end r ⌝ }
 {
     if !there {
         return Decision {
@@ -107,7 +107,7 @@ pub fn add_spec(
     requires { ⌜ at ≤ length (now text) ⌝ }
     ensures { λ r. ⌜ Ready (now (sets .exit)) (now (numbers .exit)) (now (comps .exit)) (now (vers .exit)) (now (facs .exit)) (now (impls .entry)) ⌝ }
     ensures { λ r. ⌜ Answers add-spec (Decides (stateOf (now (sets .entry)) (now (numbers .entry)) (now (comps .entry)) (now (vers .entry)) (now (facs .entry)) (now (impls .entry))) (stateOf (now (sets .exit)) (now (numbers .exit)) (now (comps .exit)) (now (vers .exit)) (now (facs .exit)) (now (impls .entry))) (r .answer)) (now (text .entry)) at (r .there) (r .end) ⌝ }
-    ensures { λ r. ⌜ (r .there ≡ false → stateOf (now (sets .exit)) (now (numbers .exit)) (now (comps .exit)) (now (vers .exit)) (now (facs .exit)) (now (impls .entry)) ≡ stateOf (now (sets .entry)) (now (numbers .entry)) (now (comps .entry)) (now (vers .entry)) (now (facs .entry)) (now (impls .entry))) ⌝ }
+    ensures { λ r. ⌜ Undecided at (stateOf (now (sets .entry)) (now (numbers .entry)) (now (comps .entry)) (now (vers .entry)) (now (facs .entry)) (now (impls .entry))) (stateOf (now (sets .exit)) (now (numbers .exit)) (now (comps .exit)) (now (vers .exit)) (now (facs .exit)) (now (impls .entry))) r ⌝ }
 {
     let mut c = *comps;
     let mut v = *vers;
@@ -145,7 +145,7 @@ pub fn add_mod(
     requires { ⌜ at ≤ length (now text) ⌝ }
     ensures { λ r. ⌜ Ready (now (sets .exit)) (now (numbers .exit)) (now (comps .exit)) (now (vers .exit)) (now (facs .entry)) (now (impls .exit)) ⌝ }
     ensures { λ r. ⌜ Answers add-mod (Decides (stateOf (now (sets .entry)) (now (numbers .entry)) (now (comps .entry)) (now (vers .entry)) (now (facs .entry)) (now (impls .entry))) (stateOf (now (sets .exit)) (now (numbers .exit)) (now (comps .exit)) (now (vers .exit)) (now (facs .entry)) (now (impls .exit))) (r .answer)) (now (text .entry)) at (r .there) (r .end) ⌝ }
-    ensures { λ r. ⌜ (r .there ≡ false → stateOf (now (sets .exit)) (now (numbers .exit)) (now (comps .exit)) (now (vers .exit)) (now (facs .entry)) (now (impls .exit)) ≡ stateOf (now (sets .entry)) (now (numbers .entry)) (now (comps .entry)) (now (vers .entry)) (now (facs .entry)) (now (impls .entry))) ⌝ }
+    ensures { λ r. ⌜ Undecided at (stateOf (now (sets .entry)) (now (numbers .entry)) (now (comps .entry)) (now (vers .entry)) (now (facs .entry)) (now (impls .entry))) (stateOf (now (sets .exit)) (now (numbers .exit)) (now (comps .exit)) (now (vers .exit)) (now (facs .entry)) (now (impls .exit))) r ⌝ }
 {
     let mut c = *comps;
     let mut v = *vers;
@@ -183,7 +183,7 @@ pub fn add_sys(
     requires { ⌜ at ≤ length (now text) ⌝ }
     ensures { λ r. ⌜ Ready (now (sets .exit)) (now (numbers .exit)) (now (comps .exit)) (now (vers .exit)) (now (facs .entry)) (now (impls .entry)) ⌝ }
     ensures { λ r. ⌜ Answers add-sys (Decides (stateOf (now (sets .entry)) (now (numbers .entry)) (now (comps .entry)) (now (vers .entry)) (now (facs .entry)) (now (impls .entry))) (stateOf (now (sets .exit)) (now (numbers .exit)) (now (comps .exit)) (now (vers .exit)) (now (facs .entry)) (now (impls .entry))) (r .answer)) (now (text .entry)) at (r .there) (r .end) ⌝ }
-    ensures { λ r. ⌜ (r .there ≡ false → stateOf (now (sets .exit)) (now (numbers .exit)) (now (comps .exit)) (now (vers .exit)) (now (facs .entry)) (now (impls .entry)) ≡ stateOf (now (sets .entry)) (now (numbers .entry)) (now (comps .entry)) (now (vers .entry)) (now (facs .entry)) (now (impls .entry))) ⌝ }
+    ensures { λ r. ⌜ Undecided at (stateOf (now (sets .entry)) (now (numbers .entry)) (now (comps .entry)) (now (vers .entry)) (now (facs .entry)) (now (impls .entry))) (stateOf (now (sets .exit)) (now (numbers .exit)) (now (comps .exit)) (now (vers .exit)) (now (facs .entry)) (now (impls .entry))) r ⌝ }
 {
     let mut c = *comps;
     let mut v = *vers;
@@ -219,7 +219,7 @@ pub fn add_modvar(
     requires { ⌜ at ≤ length (now text) ⌝ }
     ensures { λ r. ⌜ Ready (now (sets .exit)) (now (numbers .exit)) (now (comps .exit)) (now (vers .exit)) (now (facs .exit)) (now (impls .exit)) ⌝ }
     ensures { λ r. ⌜ Answers add-modvar (Decides (stateOf (now (sets .entry)) (now (numbers .entry)) (now (comps .entry)) (now (vers .entry)) (now (facs .entry)) (now (impls .entry))) (stateOf (now (sets .exit)) (now (numbers .exit)) (now (comps .exit)) (now (vers .exit)) (now (facs .exit)) (now (impls .exit))) (r .answer)) (now (text .entry)) at (r .there) (r .end) ⌝ }
-    ensures { λ r. ⌜ (r .there ≡ false → stateOf (now (sets .exit)) (now (numbers .exit)) (now (comps .exit)) (now (vers .exit)) (now (facs .exit)) (now (impls .exit)) ≡ stateOf (now (sets .entry)) (now (numbers .entry)) (now (comps .entry)) (now (vers .entry)) (now (facs .entry)) (now (impls .entry))) ⌝ }
+    ensures { λ r. ⌜ Undecided at (stateOf (now (sets .entry)) (now (numbers .entry)) (now (comps .entry)) (now (vers .entry)) (now (facs .entry)) (now (impls .entry))) (stateOf (now (sets .exit)) (now (numbers .exit)) (now (comps .exit)) (now (vers .exit)) (now (facs .exit)) (now (impls .exit))) r ⌝ }
 {
     let mut c = *comps;
     let mut v = *vers;
@@ -259,7 +259,7 @@ pub fn add_sysvar(
     requires { ⌜ at ≤ length (now text) ⌝ }
     ensures { λ r. ⌜ Ready (now (sets .exit)) (now (numbers .exit)) (now (comps .exit)) (now (vers .exit)) (now (facs .entry)) (now (impls .entry)) ⌝ }
     ensures { λ r. ⌜ Answers add-sysvar (Decides (stateOf (now (sets .entry)) (now (numbers .entry)) (now (comps .entry)) (now (vers .entry)) (now (facs .entry)) (now (impls .entry))) (stateOf (now (sets .exit)) (now (numbers .exit)) (now (comps .exit)) (now (vers .exit)) (now (facs .entry)) (now (impls .entry))) (r .answer)) (now (text .entry)) at (r .there) (r .end) ⌝ }
-    ensures { λ r. ⌜ (r .there ≡ false → stateOf (now (sets .exit)) (now (numbers .exit)) (now (comps .exit)) (now (vers .exit)) (now (facs .entry)) (now (impls .entry)) ≡ stateOf (now (sets .entry)) (now (numbers .entry)) (now (comps .entry)) (now (vers .entry)) (now (facs .entry)) (now (impls .entry))) ⌝ }
+    ensures { λ r. ⌜ Undecided at (stateOf (now (sets .entry)) (now (numbers .entry)) (now (comps .entry)) (now (vers .entry)) (now (facs .entry)) (now (impls .entry))) (stateOf (now (sets .exit)) (now (numbers .exit)) (now (comps .exit)) (now (vers .exit)) (now (facs .entry)) (now (impls .entry))) r ⌝ }
 {
     let mut c = *comps;
     let mut v = *vers;

@@ -53,7 +53,7 @@ module _ (f : Name → Said) (t : Text) (at a e : ℕ) (there : Bool) (r : Answe
   one-short w d = ap short d ∙ r .yes (not-false there n) .took .fits
 
   pub one-answers : (R : Said → Type 0) (w : Text) → w ≡ part t a e → R (f w) → Answers (ofOne f) R t at true e
-  one-answers R w d x = answers-as (ofOne f) (OneSaid f t a e) R t at e there r n (λ y q. subst R (ap f d ∙ sym (q .is)) x)
+  one-answers R w d x = answers-as (ofOne f) (OneSaid f t a e) R t at e there r (not-false there n) (λ y q. subst R (ap f d ∙ sym (q .is)) x)
 
 module _ (i : ℕ) (k : OfComponent) where
   component-carry : (s : State) (w : Name) → carry s (askedOf k w) ≡ ofComponent s 4 w (λ c. asked s (queryOf k c))
@@ -103,7 +103,7 @@ module _ (f : Name → Name → Said) (t : Text) (at : ℕ) (r : PairRead) (a : 
     pair-short = (ap short ew ∙ took .component-fits, ap short ex ∙ took .version-fits)
 
     pub pair-answers : (R : Said → Type 0) → R (f w x) → Answers (ofPair f) R t at true (r .to)
-    pair-answers R y = answers-as (ofPair f) (PairSaid f t r) R t at (r .to) (r .there) a n (λ z q. subst R (ap₂ f ew ex ∙ sym (q .is)) y)
+    pair-answers R y = answers-as (ofPair f) (PairSaid f t r) R t at (r .to) (r .there) a (not-false (r .there) n) (λ z q. subst R (ap₂ f ew ex ∙ sym (q .is)) y)
 
 pub number-small : (n : ℕ) (bytes : List ℕ) (w : Name) (g : Found) (k : ℕ) → answered g ≡ place (tableOf n bytes) w → g ≡ At k → k < n
 number-small n bytes w g k e h =
@@ -196,5 +196,5 @@ module _ (t : Text) (facs : List ℕ) (at : ℕ) (k : Known) (r : Answers choice
       → ((fs : List Name) → k .known ≡ every (λ g. isSome (place (tableOf facilities facs) g)) fs
       → (k .known ≡ true → bit (k .set) ≡ setOf (numbers (tableOf facilities facs) fs)) → R (CHOICE fs)) → Answers choice R t at true (k .end)
   choice-answers R z =
-      answers-as choice (ChoiceAsked (tableOf facilities facs) k) R t at (k .end) (k .there) r n
+      answers-as choice (ChoiceAsked (tableOf facilities facs) k) R t at (k .end) (k .there) r (not-false (k .there) n)
       (λ x q. subst R (sym (q .said)) (z (q .fs) (q .all-known) (q .set-is)))

@@ -331,7 +331,7 @@ pub fn show_component<'a>(
     ensures { λ r. ⌜ Answers (ofOne (askedOf query)) (Carried i (stateOf (now (sets .entry)) (now (numbers .entry)) (now (comps .entry)) (now (vers .entry)) (now (facs .entry)) (now (impls .entry)))
         (stateOf (now (sets .entry)) (now (numbers .entry)) (now (comps .entry)) (now (vers .entry)) (now (facs .entry)) (now (impls .entry)))
         room (r .room) (now (out .entry)) (now (out .exit))) (now (text .entry)) at (r .there) (r .end) ⌝ }
-    ensures { λ r. ⌜ Unread (r .there) room (r .room) (now (out .entry)) (now (out .exit)) ⌝ }
+    ensures { λ r. ⌜ Unread (r .there) at (r .end) room (r .room) (now (out .entry)) (now (out .exit)) ⌝ }
 {
     let w = language::read_one(text, at);
     if !w.there {
@@ -512,7 +512,7 @@ pub fn show_version<'a>(
     ensures { λ r. ⌜ Answers (ofPair (askedOfVersion query)) (Carried i (stateOf (now (sets .entry)) (now (numbers .entry)) (now (comps .entry)) (now (vers .entry)) (now (facs .entry)) (now (impls .entry)))
         (stateOf (now (sets .entry)) (now (numbers .entry)) (now (comps .entry)) (now (vers .entry)) (now (facs .entry)) (now (impls .entry)))
         room (r .room) (now (out .entry)) (now (out .exit))) (now (text .entry)) at (r .there) (r .end) ⌝ }
-    ensures { λ r. ⌜ Unread (r .there) room (r .room) (now (out .entry)) (now (out .exit)) ⌝ }
+    ensures { λ r. ⌜ Unread (r .there) at (r .end) room (r .room) (now (out .entry)) (now (out .exit)) ⌝ }
 {
     let w = language::read_pair(text, at);
     if !w.there {
@@ -629,7 +629,7 @@ pub fn show_choice<'a>(
     ensures { λ r. ⌜ Answers choice (Carried i (stateOf (now (sets .entry)) (now (numbers .entry)) (now (comps .entry)) (now (vers .entry)) (now (facs .entry)) (now (impls .entry)))
         (stateOf (now (sets .entry)) (now (numbers .entry)) (now (comps .entry)) (now (vers .entry)) (now (facs .entry)) (now (impls .entry)))
         room (r .room) (now (out .entry)) (now (out .exit))) (now (text .entry)) at (r .there) (r .end) ⌝ }
-    ensures { λ r. ⌜ Unread (r .there) room (r .room) (now (out .entry)) (now (out .exit)) ⌝ }
+    ensures { λ r. ⌜ Unread (r .there) at (r .end) room (r .room) (now (out .entry)) (now (out .exit)) ⌝ }
 {
     let k = language::read_choice(facs, text, at);
     if !k.there {

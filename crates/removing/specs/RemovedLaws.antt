@@ -58,7 +58,7 @@ module _ (kind : Component) (t : Text) (at a e : ℕ) (there : Bool)
   one-took = r (removed kind) .yes (not-false there y) .took
 
   one-read : (R : Said → Type 0) → R (removed kind (part t a e)) → Answers (ofOne (removed kind)) R t at true e
-  one-read R x = answers-as _ _ R t at e there (r (removed kind)) y (λ k q. subst R (sym (q .is)) x)
+  one-read R x = answers-as _ _ R t at e there (r (removed kind)) (not-false there y) (λ k q. subst R (sym (q .is)) x)
 
   module _ (s n c v f i : List ℕ) (o : Found) (q : answered o ≡ place (tableOf components c) (part t a e)) where
     abbrev taken : ℕ → Result
@@ -127,7 +127,7 @@ module _ (kind : Version) (t : Text) (at : ℕ) (r : Parts) (g : (h : Name → N
   pair-took = g (versionRemoved kind) .yes (not-false (r .there) y) .took
 
   pair-read : (R : Said → Type 0) → R (versionRemoved kind component-name version-name) → Answers (ofPair (versionRemoved kind)) R t at true (r .to)
-  pair-read R x = answers-as _ _ R t at (r .to) (r .there) (g (versionRemoved kind)) y (λ k q. subst R (sym (q .is)) x)
+  pair-read R x = answers-as _ _ R t at (r .to) (r .there) (g (versionRemoved kind)) (not-false (r .there) y) (λ k q. subst R (sym (q .is)) x)
 
   module _ (s n c v f i : List ℕ) (o : Found) (q : answered o ≡ place (tableOf components c) component-name) where
     abbrev version-taken : ℕ → ℕ → Result

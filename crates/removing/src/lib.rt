@@ -9,7 +9,7 @@ ghost use Rattle.language.specs.Readers.{Answers, Span};
 ghost use Rattle.names.specs.Stored.{answered, tableOf};
 ghost use Rattle.removing.specs.Removed.{componentAnswer, componentCommand, isOfKind, pairAnswer, removed, versionAnswer, versionCommand, versionRemoved};
 ghost use Rattle.rules.specs.Test as test;
-ghost use Rattle.states.specs.Carried.{Decides};
+ghost use Rattle.states.specs.Carried.{Decides, Undecided};
 ghost use Rattle.states.specs.State.{Ready, stateOf};
 ghost use Rattle.text.specs.Bytes.{short};
 ghost use Rattle.text.specs.Language.{ofOne, ofPair};
@@ -81,7 +81,7 @@ pub fn remove_component<'a>(
     requires { ⌜ at ≤ length (now text) ⌝ }
     ensures { λ r. ⌜ Ready (now (sets .exit)) (now (numbers .exit)) (now (comps .entry)) (now (vers .entry)) (now (facs .entry)) (now (impls .entry)) ⌝ }
     ensures { λ r. ⌜ Answers (ofOne (removed kind)) (Decides (stateOf (now (sets .entry)) (now (numbers .entry)) (now (comps .entry)) (now (vers .entry)) (now (facs .entry)) (now (impls .entry))) (stateOf (now (sets .exit)) (now (numbers .exit)) (now (comps .entry)) (now (vers .entry)) (now (facs .entry)) (now (impls .entry))) (r .answer)) (now (text .entry)) at (r .there) (r .end) ⌝ }
-    ensures { λ r. ⌜ (r .there ≡ false → stateOf (now (sets .exit)) (now (numbers .exit)) (now (comps .entry)) (now (vers .entry)) (now (facs .entry)) (now (impls .entry)) ≡ stateOf (now (sets .entry)) (now (numbers .entry)) (now (comps .entry)) (now (vers .entry)) (now (facs .entry)) (now (impls .entry))) ⌝ }
+    ensures { λ r. ⌜ Undecided at (stateOf (now (sets .entry)) (now (numbers .entry)) (now (comps .entry)) (now (vers .entry)) (now (facs .entry)) (now (impls .entry))) (stateOf (now (sets .exit)) (now (numbers .exit)) (now (comps .entry)) (now (vers .entry)) (now (facs .entry)) (now (impls .entry))) r ⌝ }
 {
     let w = language::read_one(text, at);
     if !w.there {
@@ -178,7 +178,7 @@ pub fn remove_version<'a>(
     requires { ⌜ at ≤ length (now text) ⌝ }
     ensures { λ r. ⌜ Ready (now (sets .exit)) (now (numbers .exit)) (now (comps .entry)) (now (vers .entry)) (now (facs .entry)) (now (impls .entry)) ⌝ }
     ensures { λ r. ⌜ Answers (ofPair (versionRemoved kind)) (Decides (stateOf (now (sets .entry)) (now (numbers .entry)) (now (comps .entry)) (now (vers .entry)) (now (facs .entry)) (now (impls .entry))) (stateOf (now (sets .exit)) (now (numbers .exit)) (now (comps .entry)) (now (vers .entry)) (now (facs .entry)) (now (impls .entry))) (r .answer)) (now (text .entry)) at (r .there) (r .end) ⌝ }
-    ensures { λ r. ⌜ (r .there ≡ false → stateOf (now (sets .exit)) (now (numbers .exit)) (now (comps .entry)) (now (vers .entry)) (now (facs .entry)) (now (impls .entry)) ≡ stateOf (now (sets .entry)) (now (numbers .entry)) (now (comps .entry)) (now (vers .entry)) (now (facs .entry)) (now (impls .entry))) ⌝ }
+    ensures { λ r. ⌜ Undecided at (stateOf (now (sets .entry)) (now (numbers .entry)) (now (comps .entry)) (now (vers .entry)) (now (facs .entry)) (now (impls .entry))) (stateOf (now (sets .exit)) (now (numbers .exit)) (now (comps .entry)) (now (vers .entry)) (now (facs .entry)) (now (impls .entry))) r ⌝ }
 {
     let p = language::read_pair(text, at);
     if !p.there {

@@ -1,11 +1,10 @@
 -- The row of one of the ten commands; what was read.
-use mathlib.Core.Bool.{Bool, false, not, true}
+use mathlib.Core.Bool.{Bool, false, true}
 use mathlib.Core.List.{List}
 use mathlib.Core.Path.{_∙_, _≡_, ap, refl, subst, sym}
 use Prim.Native.Nat.{_≤_, suc, zero, ℕ}
 use native.Mathlib.Nat.{le-refl}
 use native.Mathlib.Omega.{arith}
-use borrow.Author.Tests.{not-false}
 use lib.ListN.{length}
 use Rattle.language.specs.Readers.{Answers}
 use Rattle.language.specs.TokenLaws.{answer-yes}
@@ -19,7 +18,7 @@ use Rattle.text.specs.Bytes.{Text}
 use Rattle.text.specs.Language.{Reader, Said, give}
 use Rattle.text.specs.Session.{State, afterwards, decided, decimal, lines, row, told}
 use Rattle.text.specs.Tables.{Tables}
-use Rattle.states.specs.Carried.{Carried, Decides, Unread}
+use Rattle.states.specs.Carried.{Carried, Decides, Undecided, Unread}
 
 decided-lines : (i a : ℕ) (s : State) → lines i (decided a s) ≡ row i (decimal a)
 unfolding lines decided
@@ -53,10 +52,10 @@ told-next b t k = by (answer b k)
 -- ---- what was read, and what was not
 
 -- what was read may be said otherwise
-pub answers-as : {A : Type 0} (p : Reader A) (Q R : A → Type 0) (t : Text) (at e : ℕ) (there : Bool) → Answers p Q t at there e → not there ≡ false
+pub answers-as : {A : Type 0} (p : Reader A) (Q R : A → Type 0) (t : Text) (at e : ℕ) (there : Bool) → Answers p Q t at there e → there ≡ true
     → ((x : A) → Q x → R x) → Answers p R t at true e
-answers-as p Q R t at e there r n f =
-    let g = r .yes (not-false there n) in
+answers-as p Q R t at e there r y f =
+    let g = r .yes y in
     answer-yes p R t at e (record { value = g .value; is = g .is; took = f (g .value) (g .took); from = g .from; inside = g .inside })
 
 -- a query of one word
@@ -67,9 +66,14 @@ asked-alone x l r = record {
   no = λ y. clash refl y;
 }
 
--- where no command was read, nothing is put
-pub unread : (p : Room) (old : List ℕ) → Unread false p p old old
-unread p old = record { room = λ y. refl; slice = λ y. refl }
+pub was-read : {at e : ℕ} {p q : Room} {old new : List ℕ} → Unread true at e p q old new
+was-read = record { end = λ y. clash refl y; room = λ y. clash refl y; slice = λ y. clash refl y }
 
-pub was-read : {p q : Room} {old new : List ℕ} → Unread true p q old new
-was-read = record { room = λ y. clash refl y; slice = λ y. clash refl y }
+pub unread : (at : ℕ) (p : Room) (old : List ℕ) → Unread false at at p p old old
+unread at p old = record { end = λ y. refl; room = λ y. refl; slice = λ y. refl }
+
+pub was-decided : {at e a : ℕ} {s s′ : State} → Undecided at s s′ (record { there = true; end = e; answer = a })
+was-decided = record { end = λ y. clash refl y; answer = λ y. clash refl y; state = λ y. clash refl y }
+
+pub undecided : (at : ℕ) (s : State) → Undecided at s s (record { there = false; end = at; answer = 0 })
+undecided at s = record { end = λ y. refl; answer = λ y. refl; state = λ y. refl }

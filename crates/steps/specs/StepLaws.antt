@@ -34,27 +34,29 @@ unfolding sessionOf
 as-read i s t r e = session-step i s t ∙ ap (onRead (λ s′ u. sessionFrom (length u) (suc i) s′ u) i s) e
 
 module _ (i : ℕ) (t : Text) (s : State) (p : Room) (old : List ℕ) where
-  pub step-over : (e : ℕ) → command t ≡ over → Stepped i t s s p p old old false e
+  pub step-over : command t ≡ over → Stepped i t s s p p old old false 0
   unfolding onRead
-  step-over e c = record {
+  step-over c = record {
     rows = [];
     puts = puts-none p old;
     goes-on = λ y. clash y refl;
     onward = λ y. clash y refl;
     inside = λ y. clash y refl;
     ends = λ y. as-read i s t over c;
+    stops = λ y. refl;
   }
 
-  pub step-wrong : (q : Room) (new : List ℕ) (e : ℕ) → command t ≡ wrong → Puts (row i (decimal 23)) p q old new
+  pub step-wrong : (q : Room) (new : List ℕ) (e : ℕ) → e ≡ 0 → command t ≡ wrong → Puts (row i (decimal 23)) p q old new
       → Stepped i t s s p q old new false e
   unfolding onRead
-  step-wrong q new e c r = record {
+  step-wrong q new e z c r = record {
     rows = row i (decimal 23);
     puts = r;
     goes-on = λ y. clash y refl;
     onward = λ y. clash y refl;
     inside = λ y. clash y refl;
     ends = λ y. as-read i s t wrong c;
+    stops = λ y. z;
   }
 
   pub step-said : (s′ : State) (q : Room) (new : List ℕ) (x : Said) (e : ℕ) → e ≤ length t → command t ≡ said x (drop e t)
@@ -73,6 +75,7 @@ module _ (i : ℕ) (t : Text) (s : State) (p : Room) (old : List ℕ) where
         (let h = left-length (subst (LeftR 1 t) c (command-left t)) in let b = length-drop e t in omega arith);
     inside = λ y. m;
     ends = λ y. clash refl y;
+    stops = λ y. clash refl y;
   }
 
 -- ---- behind the first word
@@ -93,15 +96,17 @@ module _ {k : Reader Said} {i : ℕ} {t : Text} {at : ℕ} {s s′ : State} {p q
         unread = λ y. clash refl y;
         refused = λ y. clash refl y;
         unchanged = λ y. clash refl y;
+        stops = λ y. clash refl y;
       }
 
-  pub behind-unread : {R : Said → Type 0} {e z : ℕ} {there : Bool} → Answers k R t at there e → not there ≡ true → s′ ≡ s
-      → Puts (row i (decimal 23)) p q old new → Behind k i t at s s′ p q old new false z
+  pub behind-unread : {R : Said → Type 0} {e : ℕ} {there : Bool} → Answers k R t at there e → not there ≡ true → s′ ≡ s
+      → Puts (row i (decimal 23)) p q old new → Behind k i t at s s′ p q old new false 0
   behind-unread d h c r = record {
     read = λ y. clash y refl;
     unread = λ y. d .no (not-true _ h);
     refused = λ y. r;
     unchanged = λ y. c;
+    stops = λ y. refl;
   }
 
   pub behind-shown : {e : ℕ} {there : Bool} → Answers k (Carried i s s′ p q old new) t at there e → not there ≡ false
@@ -111,11 +116,12 @@ module _ {k : Reader Said} {i : ℕ} {t : Text} {at : ℕ} {s s′ : State} {p q
     unread = λ y. clash refl y;
     refused = λ y. clash refl y;
     unchanged = λ y. clash refl y;
+    stops = λ y. clash refl y;
   }
 
 pub behind-unshown : {k : Reader Said} {i : ℕ} {t : Text} {at : ℕ} {s : State} {p q r : Room} {old mid new : List ℕ} {R : Said → Type 0}
-    {e z : ℕ} {there : Bool} → Answers k R t at there e → Unread there p q old mid → not there ≡ true
-    → Puts (row i (decimal 23)) q r mid new → Behind k i t at s s p r old new false z
+    {e : ℕ} {there : Bool} → Answers k R t at there e → Unread there at e p q old mid → not there ≡ true
+    → Puts (row i (decimal 23)) q r mid new → Behind k i t at s s p r old new false 0
 behind-unshown {i = i} {p = p} {r = r} {mid = mid} {new = new} d u h g =
     let n = not-true _ h in
     behind-unread d h refl
@@ -146,16 +152,16 @@ module _ {t : Text} {n e : ℕ} (c : CommandAt t 0 n e) where
         (step-said i t s p old s′ q new (g .value) z (g .inside) (command-is ∙ ap readAs (g .is)) (g .took)))
     | inr y ↦ subst (λ (b : Bool). Stepped i t s s′ p q old new b z) (sym y)
         (subst (λ (u : State). Stepped i t s u p q old new false z) (sym (d .unchanged y))
-        (step-wrong i t s p old q new z (command-is ∙ ap readAs (d .unread y)) (d .refused y)))
+        (step-wrong i t s p old q new z (d .stops y) (command-is ∙ ap readAs (d .unread y)) (d .refused y)))
   ]
     where
       command-is : command t ≡ readAs (readerOf f (drop e t))
       command-is = found-as (begun f h h′) f h
 
-  pub steps-nothing : {i : ℕ} {s : State} {p q : Room} {old new : List ℕ} (z : ℕ) → (n ≡ 29 → ⊥) → formOf n ≡ Nothing
-      → Puts (row i (decimal 23)) p q old new → Stepped i t s s p q old new false z
+  pub steps-nothing : {i : ℕ} {s : State} {p q : Room} {old new : List ℕ} → (n ≡ 29 → ⊥) → formOf n ≡ Nothing
+      → Puts (row i (decimal 23)) p q old new → Stepped i t s s p q old new false 0
   unfolding readAs readerOf
-  steps-nothing {i} {s} {p} {q} {old} {new} z a h r = step-wrong i t s p old q new z not-read r
+  steps-nothing {i} {s} {p} {q} {old} {new} a h r = step-wrong i t s p old q new 0 refl not-read r
     where
       not-read : command t ≡ wrong
       not-read = elim (bool? (n <? 28)) [

@@ -17,17 +17,18 @@ use Rattle.text.specs.Session.{State, decimal, row, sessionFrom}
 unfoldable pub sessionOf : ℕ → State → Text → Text × State
 sessionOf i s t = sessionFrom (length t) i s t
 
--- The command that the reader k reads from position `at` on: if there is one, up to e, it is carried out; if not, the row says 23 and
--- nothing is changed.
+-- The command that the reader k reads from position `at` on: if there is one, up to e, it is carried out; if not, the row says 23,
+-- nothing is changed, and e is 0.
 pub record Behind (k : Reader Said) (i : ℕ) (t : Text) (at : ℕ) (s s′ : State) (p q : Room) (old new : List ℕ) (more : Bool) (e : ℕ)
     : Type 0 where
   pub read : more ≡ true → Got k (Carried i s s′ p q old new) t at e
   pub unread : more ≡ false → k (drop at t) ≡ none
   pub refused : more ≡ false → Puts (row i (decimal 23)) p q old new
   pub unchanged : more ≡ false → s′ ≡ s
+  pub stops : more ≡ false → e ≡ 0
 
 -- The whole step, on the text t, the rest after the commands before: s′ is the state afterwards; `rows` are put. If there is more, the
--- session goes on behind the first e bytes.
+-- session goes on behind the first e bytes; if not, e is 0.
 pub record Stepped (i : ℕ) (t : Text) (s s′ : State) (p q : Room) (old new : List ℕ) (more : Bool) (e : ℕ) : Type 0 where
   pub rows : Text
   pub puts : Puts rows p q old new
@@ -35,3 +36,4 @@ pub record Stepped (i : ℕ) (t : Text) (s s′ : State) (p q : Room) (old new :
   pub onward : more ≡ true → 0 < e
   pub inside : more ≡ true → e ≤ length t
   pub ends : more ≡ false → sessionOf i s t ≡ (rows, s′)
+  pub stops : more ≡ false → e ≡ 0

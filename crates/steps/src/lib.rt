@@ -4,7 +4,7 @@ ghost use mathlib.Core.Bool.{false};
 ghost use Prim.Native.Nat.{_≤_};
 ghost use lib.ListN.{length};
 ghost use Rattle.language.specs.Readers.{Answers};
-ghost use Rattle.states.specs.Carried.{Carried, Decides, Unread};
+ghost use Rattle.states.specs.Carried.{Carried, Decides, Undecided, Unread};
 ghost use Rattle.states.specs.State.{Ready, stateOf};
 ghost use Rattle.steps.specs.Forms.{commandOf, formOf, queryOf};
 ghost use Rattle.steps.specs.Stepped.{Behind, Stepped};
@@ -117,7 +117,7 @@ fn decide(
     requires { ⌜ at ≤ length (now text) ⌝ }
     ensures { λ r. ⌜ Ready (now (sets .exit)) (now (numbers .exit)) (now (comps .exit)) (now (vers .exit)) (now (facs .exit)) (now (impls .exit)) ⌝ }
     ensures { λ r. ⌜ Answers (commandOf command) (Decides (stateOf (now (sets .entry)) (now (numbers .entry)) (now (comps .entry)) (now (vers .entry)) (now (facs .entry)) (now (impls .entry))) (stateOf (now (sets .exit)) (now (numbers .exit)) (now (comps .exit)) (now (vers .exit)) (now (facs .exit)) (now (impls .exit))) (r .answer)) (now (text .entry)) at (r .there) (r .end) ⌝ }
-    ensures { λ r. ⌜ (r .there ≡ false → stateOf (now (sets .exit)) (now (numbers .exit)) (now (comps .exit)) (now (vers .exit)) (now (facs .exit)) (now (impls .exit)) ≡ stateOf (now (sets .entry)) (now (numbers .entry)) (now (comps .entry)) (now (vers .entry)) (now (facs .entry)) (now (impls .entry))) ⌝ }
+    ensures { λ r. ⌜ Undecided at (stateOf (now (sets .entry)) (now (numbers .entry)) (now (comps .entry)) (now (vers .entry)) (now (facs .entry)) (now (impls .entry))) (stateOf (now (sets .exit)) (now (numbers .exit)) (now (comps .exit)) (now (vers .exit)) (now (facs .exit)) (now (impls .exit))) r ⌝ }
 {
     match command {
         Command::AddSpec => add_spec(sets, numbers, comps, vers, facs, impls, text, at),
@@ -201,7 +201,7 @@ fn show<'a>(
     requires { ⌜ Ready (now sets) (now numbers) (now comps) (now vers) (now facs) (now impls) ⌝ }
     requires { ⌜ at ≤ length (now text) ⌝ }
     ensures { λ r. ⌜ Answers (queryOf query) (Carried i (stateOf (now (sets .entry)) (now (numbers .entry)) (now (comps .entry)) (now (vers .entry)) (now (facs .entry)) (now (impls .entry))) (stateOf (now (sets .entry)) (now (numbers .entry)) (now (comps .entry)) (now (vers .entry)) (now (facs .entry)) (now (impls .entry))) room (r .room) (now (out .entry)) (now (out .exit))) (now (text .entry)) at (r .there) (r .end) ⌝ }
-    ensures { λ r. ⌜ Unread (r .there) room (r .room) (now (out .entry)) (now (out .exit)) ⌝ }
+    ensures { λ r. ⌜ Unread (r .there) at (r .end) room (r .room) (now (out .entry)) (now (out .exit)) ⌝ }
 {
     match query {
         Query::Supplies => show_component(
@@ -305,7 +305,7 @@ fn show<'a>(
     }
 }
 
-// A step of a session: whether there is more, the position at which it goes on, and the room that is left.
+// A step of a session: whether there is more, the position at which it goes on if there is, and the room that is left.
 pub struct Advance {
     pub more: bool,
     pub end: usize,
@@ -339,7 +339,7 @@ fn change(
     if !d.there {
         return Advance {
             more: false,
-            end: at,
+            end: 0,
             room: rows::put_answer_row(out, room, i, NOT_OF_THE_LANGUAGE),
         };
     }
@@ -388,7 +388,7 @@ fn ask<'a>(
     if !s.there {
         return Advance {
             more: false,
-            end: at,
+            end: 0,
             room: rows::put_answer_row(out, after, i, NOT_OF_THE_LANGUAGE),
         };
     }

@@ -6,7 +6,7 @@ use Rattle.asking.proofs.show_choice.Statement.{statement}
 use Rattle.asking.proofs.show_choice.Tie as tie
 
 returns : tie.Need-returns
-returns c = (no-answer _ _ _ _ _ _ _ _ (c .before .before .read-choice .ensures) (c .if1 .taken), unread _ _)
+returns c = (no-answer _ _ _ _ _ _ _ _ (c .before .before .read-choice .ensures) (c .if1 .taken), unread _ _ _)
 
 returns-2 : tie.Need-returns-2
 returns-2 c = (

@@ -7,7 +7,7 @@ use Rattle.asking.proofs.show_component.Statement.{statement}
 use Rattle.asking.proofs.show_component.Tie as tie
 
 returns : tie.Need-returns
-returns c = (no-answer _ _ _ _ _ _ _ _ (c .before .before .read-one .ensures (askedOf (c .before .before .before .before .before .args .query))) (c .if1 .taken), unread _ _)
+returns c = (no-answer _ _ _ _ _ _ _ _ (c .before .before .read-one .ensures (askedOf (c .before .before .before .before .before .args .query))) (c .if1 .taken), unread _ _ _)
 
 word-requires : tie.Need-word-requires
 word-requires c κs = one-span _ _ _ _ _ _ (c .before .before .before .read-one .ensures (askedOf (c .before .before .before .before .before .before .args .query))) (c .before .if1 .left)

@@ -7,7 +7,7 @@ use Rattle.asking.proofs.show_version.Statement.{statement}
 use Rattle.asking.proofs.show_version.Tie as tie
 
 returns : tie.Need-returns
-returns c = (no-answer _ _ _ _ _ _ _ _ (c .before .before .read-pair .ensures (askedOfVersion (c .before .before .before .before .before .args .query))) (c .if1 .taken), unread _ _)
+returns c = (no-answer _ _ _ _ _ _ _ _ (c .before .before .read-pair .ensures (askedOfVersion (c .before .before .before .before .before .args .query))) (c .if1 .taken), unread _ _ _)
 
 word-requires : tie.Need-word-requires
 word-requires c κs = pair-component _ _ _ _ (c .before .before .read-pair .ensures (askedOfVersion (c .before .before .before .before .before .args .query))) (c .if1 .left)

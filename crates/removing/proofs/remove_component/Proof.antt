@@ -1,6 +1,5 @@
 use Rattle.language.specs.TakeLaws.{no-answer}
-use Rattle.sets.specs.TestLaws.{clash}
-use mathlib.Core.Path.{refl}
+use Rattle.states.specs.CarriedLaws.{undecided, was-decided}
 use Rattle.removing.specs.KeepLaws.{ready-on}
 use Rattle.removing.specs.RemovedLaws.{component-known, component-unknown, one-took}
 use borrow.Author.Needs.{needs}
@@ -21,7 +20,7 @@ returns-2 c =
       (
         component-unknown (read .before .before .args .kind) _ _ _ _ _ (read .read-one .ensures) (c .before .before .before .before .before .if1 .left) _ _ _ _ _ _ _ (c .before .before .before .place-of .ensures)
             (c .before .enum-told .given .1) _ (c .component-answer .ensures),
-        λ _. refl,
+        was-decided,
       ),
     )
 
@@ -35,12 +34,12 @@ returns-3 c =
       (
         component-known (read .before .before .args .kind) _ _ _ _ _ (read .read-one .ensures) (found .before .before .before .before .if1 .left)
             _ _ _ _ _ _ _ (found .before .before .place-of .ensures) ready _ (found .c .given .1) _ _ _ done,
-        λ q. clash refl q,
+        was-decided,
       ),
     )
 
 pub remove-component-spec : {M : Type 1} → statement M
 remove-component-spec = tie.close
     (tie.spec (λ c κs. search needs)
-    (λ c. (c .before .before .before .before .pre .0, (no-answer _ _ _ _ _ _ _ _ (c .before .before .read-one .ensures _) (c .if1 .taken), λ _. refl)))
+    (λ c. (c .before .before .before .before .pre .0, (no-answer _ _ _ _ _ _ _ _ (c .before .before .read-one .ensures _) (c .if1 .taken), undecided _ _)))
     place-of-requires (λ c. search needs) (λ c. search needs) (λ c κs. search needs) returns-2 (λ c κs. search needs) returns-3)

@@ -1,6 +1,5 @@
 use Rattle.language.specs.TakeLaws.{no-answer}
-use Rattle.sets.specs.TestLaws.{clash}
-use mathlib.Core.Path.{refl}
+use Rattle.states.specs.CarriedLaws.{undecided, was-decided}
 use Rattle.removing.specs.KeepLaws.{ready-on}
 use Rattle.removing.specs.RemovedLaws.{found-small, pair-unknown, pair-took, version-known, version-unknown}
 use borrow.Author.Needs.{needs}
@@ -21,7 +20,7 @@ returns-2 c =
       (
         pair-unknown (read .before .before .args .kind) _ _ _ (read .read-pair .ensures) (c .before .before .before .before .before .if1 .left) _ _ _ _ _ _ _ (c .before .before .before .place-of .ensures)
             (c .before .enum-told .given .1) _ (c .pair-answer .ensures),
-        λ _. refl,
+        was-decided,
       ),
     )
 
@@ -46,7 +45,7 @@ returns-3 c =
         version-unknown (read .before .before .args .kind) _ _ _ (read .read-pair .ensures) (found .before .before .before .before .if1 .left)
             _ _ _ _ _ _ _ (found .before .before .place-of .ensures) _ (found .c .given .1) _ (c .before .before .before .before .before .place-of2 .ensures)
             (c .before .before .before .enum-told2 .given .1) _ (c .version-answer .ensures),
-        λ _. refl,
+        was-decided,
       ),
     )
 
@@ -61,13 +60,13 @@ returns-4 c =
         version-known (read .before .before .args .kind) _ _ _ (read .read-pair .ensures) (found .before .before .before .before .if1 .left)
             _ _ _ _ _ _ _ (found .before .before .place-of .ensures) _ (found .c .given .1) _ (c .before .before .before .before .before .before .place-of2 .ensures)
             ready _ (c .before .before .before .before .v .given .1) _ _ _ done,
-        λ q. clash refl q,
+        was-decided,
       ),
     )
 
 pub remove-version-spec : {M : Type 1} → statement M
 remove-version-spec = tie.close
     (tie.spec (λ c κs. search needs)
-    (λ c. (c .before .before .before .before .pre .0, (no-answer _ _ _ _ _ _ _ _ (c .before .before .read-pair .ensures _) (c .if1 .taken), λ _. refl)))
+    (λ c. (c .before .before .before .before .pre .0, (no-answer _ _ _ _ _ _ _ _ (c .before .before .read-pair .ensures _) (c .if1 .taken), undecided _ _)))
     place-of-requires (λ c. search needs) (λ c. search needs) (λ c κs. search needs) returns-2 place-of-requires-2 (λ c. search needs)
     (λ c. search needs) version-answer-requires returns-3 (λ c κs. search needs) returns-4)

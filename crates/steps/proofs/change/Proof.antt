@@ -8,7 +8,7 @@ same-length : tie.Need-same-length
 same-length c = c .before .before .put-answer-row .ensures .keeps
 
 returns : tie.Need-returns
-returns c = (c .before .before .before .before .before .before .decide .ensures .0, behind-unread (c .before .before .before .before .before .before .decide .ensures .1 .0) (c .before .before .before .before .if1 .taken) (c .before .before .before .before .before .before .decide .ensures .1 .1 (not-true _ (c .before .before .before .before .if1 .taken))) (c .before .before .put-answer-row .ensures))
+returns c = (c .before .before .before .before .before .before .decide .ensures .0, behind-unread (c .before .before .before .before .before .before .decide .ensures .1 .0) (c .before .before .before .before .if1 .taken) (c .before .before .before .before .before .before .decide .ensures .1 .1 .state (not-true _ (c .before .before .before .before .if1 .taken))) (c .before .before .put-answer-row .ensures))
 
 same-length-2 : tie.Need-same-length-2
 same-length-2 c = c .before .before .put-answer-row2 .ensures .keeps

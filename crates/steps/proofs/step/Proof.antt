@@ -8,7 +8,7 @@ use Rattle.steps.proofs.step.Statement.{statement}
 use Rattle.steps.proofs.step.Tie as tie
 
 returns : tie.Need-returns
-returns c = (c .before .before .before .before .pre, step-over _ _ _ _ _ _ (c .before .read-command .ensures .ends (c .if1 .taken)))
+returns c = (c .before .before .before .before .pre, step-over _ _ _ _ _ (c .before .read-command .ensures .ends (c .if1 .taken)))
 
 change-requires : tie.Need-change-requires
 change-requires c κs = (c .before .before .before .before .before .before .before .before .before .before .before .before .before .before .before .pre, begun-inside (c .before .before .before .before .before .before .before .before .before .before .before .before .read-command .ensures) _ (sym (c .before .before .before .before .before .before .before .before .before .before .form-of .ensures) ∙ c .before .before .before .before .before .before .before .before .form .given .1) (changes-some _))
@@ -25,7 +25,7 @@ unfolding readerOf
 returns-3 c = (c .before .before .before .before .before .before .before .before .before .before .before .before .before .before .before .before .before .before .pre, steps-behind (c .before .before .before .before .before .before .before .before .before .before .before .before .before .before .before .read-command .ensures) _ (sym (c .before .before .before .before .before .before .before .before .before .before .before .before .before .form-of .ensures) ∙ c .before .before .before .before .before .before .before .before .before .before .before .form2 .given .1) (asks-some _) (c .before .before .ask .ensures))
 
 returns-4 : tie.Need-returns-4
-returns-4 c = (c .before .before .before .before .before .before .before .before .before .before .before .pre, steps-nothing (c .before .before .before .before .before .before .before .before .read-command .ensures) _ (c .before .before .before .before .before .before .before .if1 .left) (sym (c .before .before .before .before .before .before .form-of .ensures) ∙ c .before .before .before .before .enum-told .given .1) (c .before .before .put-answer-row .ensures))
+returns-4 c = (c .before .before .before .before .before .before .before .before .before .before .before .pre, steps-nothing (c .before .before .before .before .before .before .before .before .read-command .ensures) (c .before .before .before .before .before .before .before .if1 .left) (sym (c .before .before .before .before .before .before .form-of .ensures) ∙ c .before .before .before .before .enum-told .given .1) (c .before .before .put-answer-row .ensures))
 
 pub step-spec : {M : Type 1} → statement M
 step-spec =

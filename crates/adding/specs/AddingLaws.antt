@@ -8,7 +8,7 @@ use Prim.Native.Nat.{suc, zero, ℕ}
 use borrow.Author.Tests.{not-false, not-true}
 use Rattle.book.specs.Plain.{plainOf}
 use Rattle.commands.specs.Demand.{step-right}
-use Rattle.commands.specs.Outcome.{Called}
+use Rattle.outcomes.specs.Outcome.{Called}
 use Rattle.language.specs.Entering.{Kept}
 use Rattle.language.specs.Readers.{Answers}
 use Rattle.language.specs.ProductionLaws.{at-end}

@@ -4,7 +4,7 @@ use mathlib.Core.List.{List}
 use mathlib.Core.Path.{_≡_, ap, subst, sym}
 use mathlib.Core.Bool.{true}
 use Prim.Native.Nat.{ℕ}
-use Rattle.commands.specs.Outcome.{Called}
+use Rattle.outcomes.specs.Outcome.{Called}
 use Rattle.language.specs.Requested.{ModAsked, ModAsks, ModvarAsked, ModvarAsks, SpecAsked, SpecAsks, SysAsked, SysAsks, SysvarAsked, SysvarAsks}
 use Rattle.language.specs.declared.ModRequest.{ModRequest}
 use Rattle.language.specs.declared.ModvarRequest.{ModvarRequest}

@@ -18,13 +18,13 @@ use Rattle.model.specs.PartsList.{listed, nextRow, parts, rowsFrom}
 use Rattle.model.specs.Queries.{CHOICE, PARTS, Reply, asked, choice, found, pairsFrom, refused, risingPairs, thePairs}
 use Rattle.model.specs.Questions.{eachBelow, firstNo}
 use Rattle.names.specs.Stored.{tablesOf}
-use Rattle.parts.specs.Listed.{partsAnswer, partsAsked, rowNumber}
-use Rattle.parts.specs.Listed as parts-call
-use Rattle.queries.specs.Found.{flat}
-use Rattle.queries.specs.Listed.{Listed, answerOf, fitted, rowOf, rowsOf}
-use Rattle.queries.specs.Replied.{numbersIn, repliedTo}
-use Rattle.queries.specs.RepliedLaws.{to-found, to-refused}
-use Rattle.queries.specs.RowLaws.{rows-flat}
+use Rattle.part_rows.specs.Listed.{partsAnswer, partsAsked, rowNumber}
+use Rattle.part_rows.specs.Listed as parts-call
+use Rattle.replies.specs.Found.{flat}
+use Rattle.replies.specs.Listed.{Listed, answerOf, fitted, rowOf, rowsOf}
+use Rattle.replies.specs.Replied.{numbersIn, repliedTo}
+use Rattle.replies.specs.RepliedLaws.{to-found, to-refused}
+use Rattle.replies.specs.RowLaws.{rows-flat}
 use Rattle.questions.specs.FirstNoLaws.{none-asked, none-left, others-asked, yes-at}
 use Rattle.requests.specs.AnswerLaws.{every-listed}
 use Rattle.rules.specs.Test.{passes}

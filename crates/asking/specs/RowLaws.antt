@@ -12,7 +12,7 @@ use Rattle.listing.specs.Written.{pairOf}
 use Rattle.listing.specs.WrittenLaws.{row-as}
 use Rattle.listing.specs.declared.Room.{Room}
 use Rattle.model.specs.Lists.{from, keep, rising}
-use Rattle.queries.specs.Replied.{numbersIn}
+use Rattle.replies.specs.Replied.{numbersIn}
 use Rattle.sets.specs.Sets.{bit}
 use Rattle.sets.specs.Tests.{if_then_else_}
 use Rattle.text.specs.Bytes.{Text}

@@ -4,7 +4,7 @@ use Prim.Native.Nat.{_%_, _/_, ℕ}
 use lib.ListN.{take}
 use Rattle.listing.specs.Written.{pairOf}
 use Rattle.model.specs.Book.{versions}
-use Rattle.queries.specs.Replied.{numbersIn}
+use Rattle.replies.specs.Replied.{numbersIn}
 use Rattle.text.specs.Bytes.{Text}
 use Rattle.text.specs.Session.{decimal, row}
 use Rattle.text.specs.Tables.{Table, joined, nameAt}

@@ -14,8 +14,8 @@ use Rattle.model.specs.Lists.{from, rising}
 use Rattle.model.specs.Queries.{Query, Reply, reply, theComponents, theFacilities, thePairs, theParts, theVersion}
 use Rattle.model.specs.Queries as queries
 use Rattle.names.specs.Stored.{tableOf, tablesOf}
-use Rattle.queries.specs.Replied.{Replied, componentsIn, facilitiesIn, numbersIn, repliedTo}
-use Rattle.queries.specs.RepliedLaws.{to-reply}
+use Rattle.replies.specs.Replied.{Replied, componentsIn, facilitiesIn, numbersIn, repliedTo}
+use Rattle.replies.specs.RepliedLaws.{to-reply}
 use Rattle.rules.specs.Test.{passes}
 use Rattle.sets.specs.SetLaws.{bit-zero}
 use Rattle.sets.specs.Sets.{bit}

@@ -1,22 +1,16 @@
-// The Book value: a version book in two arrays, read and written by component and version. What it means is `plainOf` (specs/Plain.antt),
-// and nothing above this crate sees how versions are stored.
+// The Book value: a version book in two arrays, read by component and version. What it means is `plainOf` (specs/Plain.antt). How versions
+// are stored is seen here and in the two crates of writers, book_put and book_take, alone.
 ghost use mathlib.Core.Path.{_≡_};
-ghost use mathlib.Core.Bool.{true, false};
+ghost use mathlib.Core.Bool.{true};
 ghost use mathlib.Core.Option.{some};
-ghost use Prim.Native.Nat.{ℕ, _<_, _≤_, _^_};
-ghost use lib.ListN.{getD, length};
+ghost use Prim.Native.Nat.{_<_};
+ghost use lib.ListN.{length};
 ghost use Rattle.sets.specs.Sets.{bit};
-ghost use Rattle.sets.specs.Tests.{all, count};
+ghost use Rattle.sets.specs.Tests.{all};
 ghost use Rattle.model.specs.Maps.{orElse};
 ghost use Rattle.model.specs.Book as model;
-ghost use Rattle.model.specs.Commands.{after, DEL-SPEC, DEL-MOD, DEL-SYS, DEL-MODVAR, DEL-SYSVAR};
 ghost use Rattle.book.specs.Plain.{plainOf, placeOf, byte, proper};
 ghost use Rattle.book.specs.Plain as plain;
-ghost use Rattle.book.specs.Changes.{Holds, HasRoom, TakesVersion, HoldsVersion, TakesDefinition, TakesSpec};
-ghost use Rattle.book.specs.Changes.{withSpec, withModule, withSystem, withUndefined, withModvar, withSysvar};
-ghost use Rattle.book.specs.Changes.{rowOf, implementationsOf, systemFrom, specFrom, blank};
-ghost use Rattle.book.specs.Proper.{FreePlace};
-ghost use Rattle.book.specs.PutLaws.{rowIn};
 
 pub struct Book {
     pub sets: [u64; 576],
@@ -24,19 +18,20 @@ pub struct Book {
 }
 
 // Where things stand: see specs/Layout.antt. In `sets`, what a component provides stands at its number.
-const USABLE: usize = 32;
+pub const USABLE: usize = 32;
 
-const REQUIRES: usize = 64;
+pub const REQUIRES: usize = 64;
 
-const MEMBERS: usize = 320;
+pub const MEMBERS: usize = 320;
+
 // In `numbers`, the kind of a component stands at its number.
-const STANDARD: usize = 32;
+pub const STANDARD: usize = 32;
 
-const VERSION: usize = 64;
+pub const VERSION: usize = 64;
 
-const IMPLEMENTATION: usize = 320;
+pub const IMPLEMENTATION: usize = 320;
 
-const MEMBER_VERSION: usize = 576;
+pub const MEMBER_VERSION: usize = 576;
 
 // The empty book.
 pub fn fresh() -> Book
@@ -48,7 +43,7 @@ pub fn fresh() -> Book
     }
 }
 
-fn wide(x: u8) -> usize
+pub fn wide(x: u8) -> usize
     ensures { λ r. ⌜ r ≡ x ⌝ }
 {
     x as usize
@@ -61,7 +56,7 @@ fn as_byte(x: u8) -> u8
 }
 
 // The place of version v of component c, or 256.
-fn place_of(numbers: &[u8; 8768], c: usize, v: usize) -> usize
+pub fn place_of(numbers: &[u8; 8768], c: usize, v: usize) -> usize
     requires { ⌜ c < 32 ⌝ }
     ensures { λ r. ⌜ r ≡ orElse (placeOf (now (numbers .entry)) c v) 256 ⌝ }
 {
@@ -364,211 +359,6 @@ pub fn is_proper<'a>(sets: &'a [u64; 576], numbers: &'a [u8; 8768]) -> bool
 
 // Of arrays behind references the prover does not know how long they are. Of arrays by value it does; nothing is left of this in the
 // compiled code.
-fn whole(sets: [u64; 576], numbers: [u8; 8768])
+pub fn whole(sets: [u64; 576], numbers: [u8; 8768])
     ensures { λ _. ⌜ (length sets ≡ 576) × (length numbers ≡ 8768) ⌝ }
 {}
-
-// A free place of component c.
-fn free_place<'a>(sets: &'a [u64; 576], numbers: &'a [u8; 8768], c: usize) -> usize
-    requires { ⌜ HasRoom (now sets) (now numbers) c ⌝ }
-    ensures { λ r. ⌜ FreePlace (now (numbers .entry)) c r ⌝ }
-{
-    for j in 0..8 {
-        if 64 <= wide(numbers[VERSION + (c * 8 + j)]) {
-            return c * 8 + j;
-        }
-    }
-    0
-}
-
-// Row v of rows is stored at place i.
-fn put_row(numbers: &mut [u8; 8768], i: usize, rows: &[u8; 2048], v: usize)
-    requires { ⌜ (i < 256) × (v < 64) ⌝ }
-    ensures { λ r. ⌜ now (numbers .exit) ≡ rowIn (now (numbers .entry)) i (now (rows .entry)) v 32 ⌝ }
-{
-    for m in 0..32 {
-        numbers[MEMBER_VERSION + (i * 32 + m)] = rows[v * 32 + m];
-    }
-}
-
-// Version v of component c, which is not defined, is put in.
-fn put_version(sets: &mut [u64; 576], numbers: &mut [u8; 8768], c: usize, v: usize, required: u64)
-    requires { ⌜ TakesVersion (now sets) (now numbers) c v ⌝ }
-    requires { ⌜ model.isDefined (plainOf (now sets) (now numbers) .modules) (plainOf (now sets) (now numbers) .systems) c ≡ false ⌝ }
-    ensures { λ _. ⌜ Holds (now (sets .exit)) (now (numbers .exit)) (withUndefined (plainOf (now (sets .entry)) (now (numbers .entry))) c v (bit required)) ⌝ }
-{
-    whole(*sets, *numbers);
-    let i = free_place(sets, numbers, c);
-    numbers[VERSION + i] = v as u8;
-    sets[REQUIRES + i] = required;
-}
-
-// Version v of module c is put in, with what it requires and its implementation.
-pub fn put_modvar(
-    sets: &mut [u64; 576],
-    numbers: &mut [u8; 8768],
-    c: usize,
-    v: usize,
-    required: u64,
-    implementation: u8,
-)
-    requires { ⌜ TakesVersion (now sets) (now numbers) c v ⌝ }
-    requires { ⌜ model.isModule (plainOf (now sets) (now numbers) .modules) c ≡ true ⌝ }
-    ensures { λ _. ⌜ Holds (now (sets .exit)) (now (numbers .exit)) (withModvar (plainOf (now (sets .entry)) (now (numbers .entry))) c v (bit required) implementation) ⌝ }
-{
-    whole(*sets, *numbers);
-    let i = free_place(sets, numbers, c);
-    numbers[VERSION + i] = v as u8;
-    sets[REQUIRES + i] = required;
-    numbers[IMPLEMENTATION + i] = implementation;
-}
-
-// Version v of system c is put in, with empty requirements and a composition: its members, with their versions in row v.
-pub fn put_sysvar(
-    sets: &mut [u64; 576],
-    numbers: &mut [u8; 8768],
-    c: usize,
-    v: usize,
-    members: u64,
-    rows: &[u8; 2048],
-)
-    requires { ⌜ TakesVersion (now sets) (now numbers) c v ⌝ }
-    requires { ⌜ (model.isSystem (plainOf (now sets) (now numbers) .systems) c ≡ true) × (members < 2 ^ 32) ⌝ }
-    ensures { λ _. ⌜ Holds (now (sets .exit)) (now (numbers .exit)) (withSysvar (plainOf (now (sets .entry)) (now (numbers .entry))) c v (rowOf members (now (rows .entry)) v)) ⌝ }
-{
-    whole(*sets, *numbers);
-    let i = free_place(sets, numbers, c);
-    numbers[VERSION + i] = v as u8;
-    sets[REQUIRES + i] = 0;
-    sets[MEMBERS + i] = members;
-    put_row(numbers, i, rows, v);
-}
-
-// Version v of module c is taken out.
-pub fn take_modvar(sets: &[u64; 576], numbers: &mut [u8; 8768], c: usize, v: usize)
-    requires { ⌜ HoldsVersion (now sets) (now numbers) c v ⌝ }
-    requires { ⌜ model.isModule (plainOf (now sets) (now numbers) .modules) c ≡ true ⌝ }
-    ensures { λ _. ⌜ Holds (now (sets .entry)) (now (numbers .exit)) (after (plainOf (now (sets .entry)) (now (numbers .entry))) (DEL-MODVAR c v)) ⌝ }
-{
-    whole(*sets, *numbers);
-    let i = place_of(numbers, c, v);
-    numbers[VERSION + i] = 64;
-}
-
-// Version v of system c is taken out.
-pub fn take_sysvar(sets: &[u64; 576], numbers: &mut [u8; 8768], c: usize, v: usize)
-    requires { ⌜ HoldsVersion (now sets) (now numbers) c v ⌝ }
-    requires { ⌜ model.isSystem (plainOf (now sets) (now numbers) .systems) c ≡ true ⌝ }
-    ensures { λ _. ⌜ Holds (now (sets .entry)) (now (numbers .exit)) (after (plainOf (now (sets .entry)) (now (numbers .entry))) (DEL-SYSVAR c v)) ⌝ }
-{
-    whole(*sets, *numbers);
-    let place = place_of(numbers, c, v);
-    numbers[VERSION + place] = 64;
-}
-
-// The specification of component c is taken out, and a definition too.
-pub fn take_spec(sets: &[u64; 576], numbers: &mut [u8; 8768], c: usize)
-    requires { ⌜ (c < 32) × (proper (now sets) (now numbers) ≡ true) ⌝ }
-    ensures { λ _. ⌜ Holds (now (sets .entry)) (now (numbers .exit)) (after (plainOf (now (sets .entry)) (now (numbers .entry))) (DEL-SPEC c)) ⌝ }
-{
-    whole(*sets, *numbers);
-    numbers[c] = 0;
-}
-
-// The definition of module c is taken out.
-pub fn take_mod(sets: &[u64; 576], numbers: &mut [u8; 8768], m: usize)
-    requires { ⌜ (m < 32) × (proper (now sets) (now numbers) ≡ true) ⌝ }
-    requires { ⌜ model.isModule (plainOf (now sets) (now numbers) .modules) m ≡ true ⌝ }
-    ensures { λ _. ⌜ Holds (now (sets .entry)) (now (numbers .exit)) (after (plainOf (now (sets .entry)) (now (numbers .entry))) (DEL-MOD m)) ⌝ }
-{
-    whole(*sets, *numbers);
-    numbers[m] = 1;
-}
-
-// The definition of system s is taken out.
-pub fn take_sys(sets: &[u64; 576], numbers: &mut [u8; 8768], s: usize)
-    requires { ⌜ (s < 32) × (proper (now sets) (now numbers) ≡ true) ⌝ }
-    requires { ⌜ model.isSystem (plainOf (now sets) (now numbers) .systems) s ≡ true ⌝ }
-    ensures { λ _. ⌜ Holds (now (sets .entry)) (now (numbers .exit)) (after (plainOf (now (sets .entry)) (now (numbers .entry))) (DEL-SYS s)) ⌝ }
-{
-    whole(*sets, *numbers);
-    numbers[s] = 1;
-}
-
-// Component c is defined as a module: its version v gets the implementation at v.
-pub fn put_mod(sets: &[u64; 576], numbers: &mut [u8; 8768], c: usize, implementations: &[u8; 64])
-    requires { ⌜ TakesDefinition (now sets) (now numbers) c ⌝ }
-    ensures { λ _. ⌜ Holds (now (sets .entry)) (now (numbers .exit)) (withModule (plainOf (now (sets .entry)) (now (numbers .entry))) c
-        (implementationsOf (plainOf (now (sets .entry)) (now (numbers .entry)) .specs) c (now (implementations .entry)))) ⌝ }
-{
-    whole(*sets, *numbers);
-    for j in 0..8 {
-        let v = wide(numbers[VERSION + (c * 8 + j)]);
-        if v < 64 {
-            numbers[IMPLEMENTATION + (c * 8 + j)] = implementations[v];
-        }
-    }
-    numbers[c] = 2;
-}
-
-// Component c is defined as a system: its version v gets the members at v, with their versions in row v.
-pub fn put_sys(
-    sets: &mut [u64; 576],
-    numbers: &mut [u8; 8768],
-    c: usize,
-    usable: u64,
-    members: &[u64; 64],
-    rows: &[u8; 2048],
-)
-    requires { ⌜ (TakesDefinition (now sets) (now numbers) c) × (usable < 2 ^ 32) ⌝ }
-    requires { ⌜ ((v : ℕ) → model.hasVersion (plainOf (now sets) (now numbers) .specs) c v ≡ true → getD (now members) v 0 < 2 ^ 32) ⌝ }
-    ensures { λ _. ⌜ Holds (now (sets .exit)) (now (numbers .exit)) (withSystem (plainOf (now (sets .entry)) (now (numbers .entry))) c (systemFrom
-        (plainOf (now (sets .entry)) (now (numbers .entry)) .specs) c usable (now (members .entry)) (now (rows .entry)))) ⌝ }
-{
-    whole(*sets, *numbers);
-    for j in 0..8 {
-        let v = wide(numbers[VERSION + (c * 8 + j)]);
-        if v < 64 {
-            sets[MEMBERS + (c * 8 + j)] = members[v];
-            put_row(numbers, c * 8 + j, rows, v);
-        }
-    }
-    sets[USABLE + c] = usable;
-    numbers[c] = 3;
-}
-
-// Component c is specified, with no version yet.
-fn put_blank(sets: &mut [u64; 576], numbers: &mut [u8; 8768], c: usize, provides: u64, standard: u8)
-    requires { ⌜ TakesSpec (now sets) (now numbers) c ⌝ }
-    ensures { λ _. ⌜ Holds (now (sets .exit)) (now (numbers .exit)) (withSpec (plainOf (now (sets .entry)) (now (numbers .entry))) c (blank (bit provides) standard)) ⌝ }
-{
-    whole(*sets, *numbers);
-    for j in 0..8 {
-        numbers[VERSION + (c * 8 + j)] = 64;
-    }
-    sets[c] = provides;
-    numbers[STANDARD + c] = standard;
-    numbers[c] = 1;
-}
-
-// Component c is specified: what it provides, the set of its versions, what the version v requires at v, the standard version.
-pub fn put_spec(
-    sets: &mut [u64; 576],
-    numbers: &mut [u8; 8768],
-    c: usize,
-    provides: u64,
-    versions: u64,
-    requirements: &[u64; 64],
-    standard: u8,
-)
-    requires { ⌜ (TakesSpec (now sets) (now numbers) c) × (count 64 (bit versions) ≤ 8) ⌝ }
-    ensures { λ _. ⌜ Holds (now (sets .exit)) (now (numbers .exit)) (withSpec (plainOf (now (sets .entry)) (now (numbers .entry))) c (specFrom (bit provides) (bit versions)
-        (now (requirements .entry)) standard 64)) ⌝ }
-{
-    put_blank(sets, numbers, c, provides, standard);
-    for v in 0..64 {
-        if sets::member(versions, v) {
-            put_version(sets, numbers, c, v, sets::below_64(requirements[v]));
-        }
-    }
-}

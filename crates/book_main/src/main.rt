@@ -32,7 +32,7 @@ fn spec(b: Book, c: usize, provides: u64, v: usize, required: u64) -> Book {
     let requirements: [u64; 64] = [required; 64];
     let mut sets = b.sets;
     let mut numbers = b.numbers;
-    book::put_spec(
+    book_put::put_spec(
         &mut sets,
         &mut numbers,
         c,
@@ -70,7 +70,7 @@ fn system(b: Book, c: usize, members: u64, rows: &[u8; 2048]) -> Book {
     let compositions: [u64; 64] = [members; 64];
     let mut sets = b.sets;
     let mut numbers = b.numbers;
-    book::put_sys(&mut sets, &mut numbers, c, members, &compositions, rows);
+    book_put::put_sys(&mut sets, &mut numbers, c, members, &compositions, rows);
     Book {
         sets: sets,
         numbers: numbers,
@@ -113,7 +113,7 @@ fn deep() -> Book {
 
 // 1 where the Book is one.
 fn judged(b: Book) -> u64 {
-    if rules::is_book(b) {
+    if book_test::is_book(b) {
         return 1;
     }
     0

@@ -95,7 +95,7 @@ pub fn sys_candidate(
     let members = low_members(given);
     let mut rows = g.rows;
     complete_rows(sets, numbers, &mut rows, g.listed);
-    book::put_sys(sets, numbers, c, sets::below_32(u.set), &members, &rows)
+    book_put::put_sys(sets, numbers, c, sets::below_32(u.set), &members, &rows)
 }
 
 // What ADD-SYSVAR leaves, where the questions before the one about the book afterwards are answered yes. No system is made usable in
@@ -117,5 +117,5 @@ pub fn sysvar_candidate(
     let mut rows: [u8; 2048] = [0; 2048];
     requests::put_row(&mut rows, v, versions);
     complete_row(sets, numbers, &mut rows, v);
-    book::put_sysvar(sets, numbers, c, v, sets::below_32(g.members), &rows)
+    book_put::put_sysvar(sets, numbers, c, v, sets::below_32(g.members), &rows)
 }

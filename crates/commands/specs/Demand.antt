@@ -5,8 +5,8 @@ use mathlib.Core.Path.{_∙_, _≡_, ap, ap₂, refl, sym}
 use Prim.Native.Nat.{suc, zero, ℕ}
 use native.Mathlib.Omega.{arith}
 use Rattle.book.specs.Plain.{plainOf}
-use Rattle.commands.specs.Calls.{Call, commandOf}
-use Rattle.commands.specs.Outcome.{Called, answered}
+use Rattle.outcomes.specs.Calls.{Call, commandOf}
+use Rattle.outcomes.specs.Outcome.{Called, answered}
 use Rattle.model.specs.Book.{Book, empty, hasVersion}
 use Rattle.model.specs.Commands.{Command, after}
 use Rattle.model.specs.Limits.{Passes}

@@ -1,8 +1,1 @@
-pub mod Outcome
-pub mod OutcomeLaws
-pub mod Asked
-pub mod DeleteLaws
-pub mod AddLaws
-pub mod Calls
 pub mod Demand
-pub mod AddSystemLaws

@@ -6,14 +6,14 @@ use mathlib.Core.Path.{_≡_}
 use Prim.Native.Nat.{_<_, _≤_, ℕ}
 use lib.ListN.{length}
 use Rattle.book.specs.Plain.{plainOf}
-use Rattle.commands.specs.Calls.{Call, commandOf}
+use Rattle.outcomes.specs.Calls.{Call, commandOf}
 use Rattle.commands.specs.Demand.{Arrays, Step, every-sequence, run-passes}
 use Rattle.model.specs.Book.{empty, hasVersion}
 use Rattle.model.specs.Limits.{Passes}
 use Rattle.model.specs.PartsList.{parts}
 use Rattle.model.specs.PlainBook.{answers, reached}
 use Rattle.parts.specs.Demand.{RightlyListed, gives-22, parts-call-right}
-use Rattle.parts.specs.Listed.{Listed}
+use Rattle.part_rows.specs.Listed.{Listed}
 use Rattle.rules.specs.Test.{passes}
 use Rattle.theorems.specs.Notions.{Run, howManyPairs}
 

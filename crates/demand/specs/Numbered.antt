@@ -1,7 +1,7 @@
 -- The ten calls by number, so that one function makes each of them.
 use mathlib.Core.List.{List}
 use Prim.Native.Nat.{ℕ}
-use Rattle.commands.specs.Calls.{Call, addMod, addModvar, addSpec, addSys, addSysvar, delMod, delModvar, delSpec, delSys, delSysvar}
+use Rattle.outcomes.specs.Calls.{Call, addMod, addModvar, addSpec, addSys, addSysvar, delMod, delModvar, delSpec, delSys, delSysvar}
 use Rattle.sets.specs.Tests.{_==_, if_then_else_}
 
 -- what a call may carry: component, version (ADD-SPEC: standard version), implementation, set of facilities, usable components, versions,

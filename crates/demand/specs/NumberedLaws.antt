@@ -3,8 +3,8 @@ use mathlib.Core.List.{List, []}
 use mathlib.Core.Logic.{_≢_}
 use mathlib.Core.Path.{_∙_, _≡_, refl, subst, sym}
 use Prim.Native.Nat.{ℕ}
-use Rattle.commands.specs.Calls.{Call, addMod, addModvar, addSpec, addSys, addSysvar, commandOf, delMod, delModvar, delSpec, delSys, delSysvar}
-use Rattle.commands.specs.Outcome.{Called}
+use Rattle.outcomes.specs.Calls.{Call, addMod, addModvar, addSpec, addSys, addSysvar, commandOf, delMod, delModvar, delSpec, delSys, delSysvar}
+use Rattle.outcomes.specs.Outcome.{Called}
 use Rattle.demand.specs.Numbered.{callOf}
 use Rattle.sets.specs.TestLaws.{==-in, ==-not, if-false, if-true}
 use Rattle.sets.specs.Tests.{_==_, if_then_else_}

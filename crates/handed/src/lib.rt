@@ -1,5 +1,5 @@
-// The text of a Book with tables handed in. Document 01 asks the question for 25 of both: "For text also: do the tables hand in one
-// valid name for each number in the book, no name twice in a table?" The answers are specs/Answered.antt.
+// The test of tables that are handed in with a Book (document 01, the question for 25): "For text also: do the tables hand in one valid name
+// for each number in the book, no name twice in a table?"
 ghost use mathlib.Core.Path.{_≡_};
 ghost use mathlib.Core.Bool.{true};
 ghost use Prim.Native.Nat.{_*_, _<_};
@@ -10,10 +10,8 @@ ghost use Rattle.model.specs.Book.{hasVersion};
 ghost use Rattle.book.specs.Plain.{specsOf};
 ghost use Rattle.names.specs.Stored.{tableOf};
 ghost use Rattle.text.specs.Handed.{noneTwice, versionNamed, componentNamed, namesHold};
-ghost use Rattle.handed.specs.Answered.{handed, TextCall};
+ghost use Rattle.handed.specs.Answered.{handed};
 ghost use Rattle.handed.specs.Named.{apartFrom, newAt, namedIf, implementationNamed, versionIf, componentIf};
-use book::Book;
-use names::Names;
 
 // ---- no name twice
 
@@ -255,46 +253,4 @@ pub fn names_hold<'a>(
 pub struct Text {
     pub answer: usize,
     pub len: usize,
-}
-
-fn text_in<'a>(
-    out: &mut [u8],
-    sets: &'a [u64; 576],
-    numbers: &'a [u8; 8768],
-    comps: &'a [u8; 1056],
-    vers: &'a [u8; 2112],
-    facs: &'a [u8; 2112],
-    impls: &'a [u8; 8448],
-) -> Text
-    ensures { λ r. ⌜ TextCall (now (sets .entry)) (now (numbers .entry)) (now (comps .entry)) (now (vers .entry)) (now (facs .entry)) (now (impls .entry)) (now (out .entry)) r (now (out .exit)) ⌝ }
-{
-    if !rules::passes(sets, numbers) {
-        return Text { answer: 25, len: 0 };
-    }
-    if !names_hold(sets, numbers, comps, vers, facs, impls) {
-        return Text { answer: 25, len: 0 };
-    }
-    let wrote = listing::text(out, sets, numbers, comps, vers, facs, impls);
-    if !wrote.fits {
-        return Text { answer: 22, len: 0 };
-    }
-    Text {
-        answer: 0,
-        len: wrote.len,
-    }
-}
-
-// The text of a Book with its tables, at the start of a lent slice; nothing is written where the call is refused.
-pub fn text_of(b: Book, names: Names, out: &mut [u8]) -> Text
-    ensures { λ r. ⌜ TextCall (b .sets) (b .numbers) (names .comps) (names .vers) (names .facs) (names .impls) (now (out .entry)) r (now (out .exit)) ⌝ }
-{
-    text_in(
-        out,
-        &b.sets,
-        &b.numbers,
-        &names.comps,
-        &names.vers,
-        &names.facs,
-        &names.impls,
-    )
 }

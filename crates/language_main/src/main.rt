@@ -279,7 +279,7 @@ fn spec(
     ensures { λ r. ⌜ Kept facilities (now (facs .exit)) ⌝ }
     ensures { λ r. ⌜ Inside (now (text .entry)) (r .there) (r .end) ⌝ }
 {
-    let r = language::read_spec(comps, vers, facs, text, at);
+    let r = spec_reader::read_spec(comps, vers, facs, text, at);
     print_spec(number, r);
     Step {
         there: r.there,
@@ -304,7 +304,7 @@ fn module(
     ensures { λ r. ⌜ Kept implementations (now (impls .exit)) ⌝ }
     ensures { λ r. ⌜ Inside (now (text .entry)) (r .there) (r .end) ⌝ }
 {
-    let r = language::read_mod(comps, vers, impls, text, at);
+    let r = mod_reader::read_mod(comps, vers, impls, text, at);
     print_mod(number, r);
     Step {
         there: r.there,
@@ -320,7 +320,7 @@ fn system(number: usize, comps: &mut [u8], vers: &mut [u8], text: &[u8], at: usi
     ensures { λ r. ⌜ Kept versions (now (vers .exit)) ⌝ }
     ensures { λ r. ⌜ Inside (now (text .entry)) (r .there) (r .end) ⌝ }
 {
-    let r = language::read_sys(comps, vers, text, at);
+    let r = sys_reader::read_sys(comps, vers, text, at);
     print_sys(number, r);
     Step {
         there: r.there,
@@ -348,7 +348,7 @@ fn modvar(
     ensures { λ r. ⌜ Kept implementations (now (impls .exit)) ⌝ }
     ensures { λ r. ⌜ Inside (now (text .entry)) (r .there) (r .end) ⌝ }
 {
-    let r = language::read_modvar(comps, vers, facs, impls, text, at);
+    let r = mod_reader::read_modvar(comps, vers, facs, impls, text, at);
     print_modvar(number, r);
     Step {
         there: r.there,
@@ -364,7 +364,7 @@ fn sysvar(number: usize, comps: &mut [u8], vers: &mut [u8], text: &[u8], at: usi
     ensures { λ r. ⌜ Kept versions (now (vers .exit)) ⌝ }
     ensures { λ r. ⌜ Inside (now (text .entry)) (r .there) (r .end) ⌝ }
 {
-    let r = language::read_sysvar(comps, vers, text, at);
+    let r = sys_reader::read_sysvar(comps, vers, text, at);
     print_sysvar(number, r);
     Step {
         there: r.there,
@@ -377,7 +377,7 @@ fn choice(number: usize, facs: &[u8], text: &[u8], at: usize) -> Step
     requires { ⌜ at ≤ length (now text) ⌝ }
     ensures { λ r. ⌜ Inside (now (text .entry)) (r .there) (r .end) ⌝ }
 {
-    let r = language::read_choice(facs, text, at);
+    let r = word_reader::read_choice(facs, text, at);
     print_choice(number, r);
     Step {
         there: r.there,
@@ -390,7 +390,7 @@ fn one(number: usize, keyword: usize, text: &[u8], at: usize) -> Step
     requires { ⌜ at ≤ length (now text) ⌝ }
     ensures { λ r. ⌜ Inside (now (text .entry)) (r .there) (r .end) ⌝ }
 {
-    let r = language::read_one(text, at);
+    let r = word_reader::read_one(text, at);
     if !r.there {
         return Step {
             there: false,
@@ -412,7 +412,7 @@ fn pair(number: usize, keyword: usize, text: &[u8], at: usize) -> Step
     requires { ⌜ at ≤ length (now text) ⌝ }
     ensures { λ r. ⌜ Inside (now (text .entry)) (r .there) (r .end) ⌝ }
 {
-    let r = language::read_pair(text, at);
+    let r = word_reader::read_pair(text, at);
     if !r.there {
         return Step {
             there: false,
@@ -558,12 +558,12 @@ fn print_next(
         there: false,
         end: at,
     };
-    let w = language::read_command(text, at);
-    if w.number == language::OVER {
+    let w = word_reader::read_command(text, at);
+    if w.number == word_reader::OVER {
         print_over(number, w.end);
         return none;
     }
-    if language::NO_COMMAND <= w.number {
+    if word_reader::NO_COMMAND <= w.number {
         print_wrong(number, at);
         return none;
     }

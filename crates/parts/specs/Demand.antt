@@ -12,7 +12,7 @@ use Rattle.model.specs.Book.{hasVersion}
 use Rattle.model.specs.PartsList.{parts}
 use Rattle.model.specs.Queries.{asked}
 use Rattle.model.specs.Questions.{firstNo}
-use Rattle.parts.specs.Listed.{Found, Listed, partsAnswer, partsAsked}
+use Rattle.part_rows.specs.Listed.{Found, Listed, partsAnswer, partsAsked}
 use Rattle.rules.specs.Test.{passes}
 use Rattle.rules.specs.TestLaws.{passes-plain}
 use Rattle.sets.specs.TestLaws.{<?-in, <?-no, <?-out, and-in, bool?, clash, fails, if-false, if-true, ≤?-in, ≤?-out}

@@ -6,7 +6,7 @@ use mathlib.Core.Path.{_∙_, _≡_, ap, ap₂, refl, subst, sym}
 use Prim.Native.Nat.{suc, zero, ℕ}
 use native.Mathlib.Omega.{arith}
 use Rattle.book.specs.Plain.{plainOf}
-use Rattle.commands.specs.Outcome.{Called, answered}
+use Rattle.outcomes.specs.Outcome.{Called, answered}
 use Rattle.model.specs.Book.{Book}
 use Rattle.model.specs.Commands.{Command}
 use Rattle.model.specs.PlainBook.{answer, next}

@@ -8,7 +8,7 @@ use Prim.Native.Nat.{_<_, ℕ}
 use native.Mathlib.Omega.{arith}
 use borrow.Author.Tests.{not-false}
 use Rattle.book.specs.Plain.{plainOf}
-use Rattle.commands.specs.Outcome.{Called}
+use Rattle.outcomes.specs.Outcome.{Called}
 use Rattle.language.specs.Readers.{Answers}
 use Rattle.language.specs.Words.{OneSaid, PairSaid}
 use Rattle.language.specs.declared.Parts.{Parts}

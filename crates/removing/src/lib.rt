@@ -4,7 +4,7 @@ ghost use mathlib.Core.Bool.{true, false};
 ghost use Prim.Native.Nat.{_*_, _<_, _≤_};
 ghost use lib.ListN.{length};
 ghost use Rattle.book.specs.Plain.{plainOf};
-ghost use Rattle.commands.specs.Outcome.{Called};
+ghost use Rattle.outcomes.specs.Outcome.{Called};
 ghost use Rattle.language.specs.Readers.{Answers, Span};
 ghost use Rattle.names.specs.Stored.{answered, tableOf};
 ghost use Rattle.removing.specs.Removed.{componentAnswer, componentCommand, isOfKind, pairAnswer, removed, versionAnswer, versionCommand, versionRemoved};
@@ -59,9 +59,9 @@ fn take_out(sets: &[u64; 576], numbers: &mut [u8; 8768], kind: Component, c: usi
     ensures { λ r. ⌜ Called (now (sets .entry)) (now (numbers .entry)) (componentCommand kind c) r (now (sets .entry)) (now (numbers .exit)) ⌝ }
 {
     match kind {
-        Component::Spec => commands::del_spec_in(sets, numbers, c) as usize,
-        Component::Module => commands::del_mod_in(sets, numbers, c) as usize,
-        Component::System => commands::del_sys_in(sets, numbers, c) as usize,
+        Component::Spec => deletions::del_spec_in(sets, numbers, c) as usize,
+        Component::Module => deletions::del_mod_in(sets, numbers, c) as usize,
+        Component::System => deletions::del_sys_in(sets, numbers, c) as usize,
     }
 }
 
@@ -83,7 +83,7 @@ pub fn remove_component<'a>(
     ensures { λ r. ⌜ Answers (ofOne (removed kind)) (Decides (stateOf (now (sets .entry)) (now (numbers .entry)) (now (comps .entry)) (now (vers .entry)) (now (facs .entry)) (now (impls .entry))) (stateOf (now (sets .exit)) (now (numbers .exit)) (now (comps .entry)) (now (vers .entry)) (now (facs .entry)) (now (impls .entry))) (r .answer)) (now (text .entry)) at (r .there) (r .end) ⌝ }
     ensures { λ r. ⌜ Undecided at (stateOf (now (sets .entry)) (now (numbers .entry)) (now (comps .entry)) (now (vers .entry)) (now (facs .entry)) (now (impls .entry))) (stateOf (now (sets .exit)) (now (numbers .exit)) (now (comps .entry)) (now (vers .entry)) (now (facs .entry)) (now (impls .entry))) r ⌝ }
 {
-    let w = language::read_one(text, at);
+    let w = word_reader::read_one(text, at);
     if !w.there {
         return Decision {
             there: false,
@@ -157,8 +157,8 @@ fn take_version_out(
     ensures { λ r. ⌜ Called (now (sets .entry)) (now (numbers .entry)) (versionCommand kind c v) r (now (sets .entry)) (now (numbers .exit)) ⌝ }
 {
     match kind {
-        Version::Module => commands::del_modvar_in(sets, numbers, c, v) as usize,
-        Version::System => commands::del_sysvar_in(sets, numbers, c, v) as usize,
+        Version::Module => deletions::del_modvar_in(sets, numbers, c, v) as usize,
+        Version::System => deletions::del_sysvar_in(sets, numbers, c, v) as usize,
     }
 }
 
@@ -180,7 +180,7 @@ pub fn remove_version<'a>(
     ensures { λ r. ⌜ Answers (ofPair (versionRemoved kind)) (Decides (stateOf (now (sets .entry)) (now (numbers .entry)) (now (comps .entry)) (now (vers .entry)) (now (facs .entry)) (now (impls .entry))) (stateOf (now (sets .exit)) (now (numbers .exit)) (now (comps .entry)) (now (vers .entry)) (now (facs .entry)) (now (impls .entry))) (r .answer)) (now (text .entry)) at (r .there) (r .end) ⌝ }
     ensures { λ r. ⌜ Undecided at (stateOf (now (sets .entry)) (now (numbers .entry)) (now (comps .entry)) (now (vers .entry)) (now (facs .entry)) (now (impls .entry))) (stateOf (now (sets .exit)) (now (numbers .exit)) (now (comps .entry)) (now (vers .entry)) (now (facs .entry)) (now (impls .entry))) r ⌝ }
 {
-    let p = language::read_pair(text, at);
+    let p = word_reader::read_pair(text, at);
     if !p.there {
         return Decision {
             there: false,

@@ -2,17 +2,16 @@
 // flags. The slices of a call and the reader of a text meet here.
 ghost use mathlib.Core.Path.{_≡_};
 ghost use mathlib.Core.Bool.{true};
-ghost use mathlib.Core.List.{List, []};
-ghost use Prim.Native.Nat.{ℕ, _<_, _≤_, _-_};
-ghost use lib.ListN.{length, take, drop};
+ghost use mathlib.Core.List.{List};
+ghost use Prim.Native.Nat.{ℕ, _<_, _≤_};
 ghost use Rattle.sets.specs.Sets.{bit};
 ghost use Rattle.model.specs.Book.{facilities, versions};
 ghost use Rattle.model.specs.Commands.{Members};
 ghost use Rattle.model.specs.Lists.{setOf};
 ghost use Rattle.model.specs.Questions.{eachBelow};
 ghost use Rattle.requests.specs.Gathered.{nothing};
-ghost use Rattle.requests.specs.Said.{setsStep, setsOf, numbersStep, numbersOf, membersStep, membersOf, compositionsStep, compositionsOf, usableStep, usableOf, alone};
-ghost use Rattle.requests.specs.Said.{requirementsSaid, implementationsSaid, membersSaid, compositionsSaid, versionSaid};
+ghost use Rattle.requests.specs.Said.{setsStep, numbersStep, membersStep, membersOf, compositionsStep, usableStep, alone};
+ghost use Rattle.requests.specs.Said.{versionSaid};
 ghost use Rattle.requests.specs.Views.{setsView, numbersView, compositionView, compositionsView, usableView, markSaid, rowWritten};
 
 // Versions with the facilities that each requires.
@@ -243,140 +242,4 @@ pub fn with_usable(g: Usable, c: usize) -> Usable
     }
     n.set = sets::with(n.set, c);
     n
-}
-
-// ---- the slices of a call: where lists that belong together have different lengths, a number follows that is not below its limit
-
-const NO_VERSION: usize = 64;
-
-const NO_COMPONENT: usize = 32;
-
-// Versions, each with the set of facilities that it requires.
-pub fn sets_of<'a>(versions: &'a [usize], required: &'a [u64]) -> Sets
-    ensures { λ r. ⌜ setsView r ≡ setsOf (requirementsSaid (now (versions .entry)) (now (required .entry))) ⌝ }
-{
-    let mut g = no_sets();
-    let mut i = 0;
-    while i < versions.len() {
-        if required.len() <= i {
-            return with_set(g, NO_VERSION, 0);
-        }
-        g = with_set(g, versions[i], required[i]);
-        i += 1;
-    }
-    if i < required.len() {
-        return with_set(g, NO_VERSION, 0);
-    }
-    g
-}
-
-// Versions, each with its implementation.
-pub fn numbers_of<'a>(versions: &'a [usize], implementations: &'a [usize]) -> Numbers
-    ensures { λ r. ⌜ numbersView r ≡ numbersOf (implementationsSaid (now (versions .entry)) (now (implementations .entry))) ⌝ }
-{
-    let mut g = no_numbers();
-    let mut i = 0;
-    while i < versions.len() {
-        if implementations.len() <= i {
-            return with_number(g, NO_VERSION, 0);
-        }
-        g = with_number(g, versions[i], implementations[i]);
-        i += 1;
-    }
-    if i < implementations.len() {
-        return with_number(g, NO_VERSION, 0);
-    }
-    g
-}
-
-// Members, each with its version or LEFT_OUT.
-pub fn composition_of<'a>(members: &'a [usize], versions: &'a [usize]) -> Composition
-    ensures { λ r. ⌜ compositionView r ≡ membersOf (membersSaid (now (members .entry)) (now (versions .entry))) ⌝ }
-{
-    let mut g = no_members();
-    let mut i = 0;
-    while i < members.len() {
-        if versions.len() <= i {
-            return with_member(g, NO_COMPONENT, LEFT_OUT);
-        }
-        g = with_member(g, members[i], versions[i]);
-        i += 1;
-    }
-    if i < versions.len() {
-        return with_member(g, NO_COMPONENT, LEFT_OUT);
-    }
-    g
-}
-
-// Usable components.
-pub fn usable_of(components: &[usize]) -> Usable
-    ensures { λ r. ⌜ usableView r ≡ usableOf (now (components .entry)) ⌝ }
-{
-    let mut g = no_usable();
-    let mut i = 0;
-    while i < components.len() {
-        g = with_usable(g, components[i]);
-        i += 1;
-    }
-    g
-}
-
-// An entry that is not below its limit.
-fn apart(g: Compositions) -> Compositions
-    ensures { λ r. ⌜ compositionsView r ≡ compositionsStep (compositionsView g) (versions, []) ⌝ }
-{
-    with_composition(g, NO_VERSION, no_members())
-}
-
-// The composition that stands from a up to e.
-fn composition_at<'a>(
-    members: &'a [usize],
-    versions: &'a [usize],
-    a: usize,
-    e: usize,
-) -> Composition
-    requires { ⌜ (a ≤ e) × (e ≤ length (now members)) × (e ≤ length (now versions)) ⌝ }
-    ensures { λ r. ⌜ compositionView r ≡ membersOf (membersSaid (take (e - a) (drop a (now (members .entry)))) (take (e - a) (drop a (now (versions .entry))))) ⌝ }
-{
-    composition_of(&members[a..e], &versions[a..e])
-}
-
-// For each version the length of its composition; the members and their versions of all compositions, one after the other.
-pub fn compositions_of<'a>(
-    versions: &'a [usize],
-    lengths: &'a [usize],
-    members: &'a [usize],
-    chosen: &'a [usize],
-) -> Compositions
-    ensures { λ r. ⌜ compositionsView r ≡ compositionsOf (compositionsSaid (now (versions .entry)) (now (lengths .entry)) (now (members .entry)) (now (chosen .entry))) ⌝ }
-{
-    let mut g = no_compositions();
-    let mut a = 0;
-    let mut i = 0;
-    while i < versions.len() {
-        if lengths.len() <= i {
-            return apart(g);
-        }
-        let l = lengths[i];
-        if members.len() - a < l {
-            return apart(g);
-        }
-        if chosen.len() - a < l {
-            return apart(g);
-        }
-        let k = composition_at(members, chosen, a, a + l);
-        g = with_composition(g, versions[i], k);
-        a = a + l;
-        i += 1;
-    }
-    if i < lengths.len() {
-        return apart(g);
-    }
-    if a < members.len() {
-        return apart(g);
-    }
-    if a < chosen.len() {
-        return apart(g);
-    }
-    g
 }

@@ -1,4 +1,2 @@
-pub mod Forms
 pub mod Stepped
-pub mod FormLaws
 pub mod StepLaws

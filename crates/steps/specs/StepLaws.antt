@@ -22,11 +22,11 @@ use Rattle.text.specs.Session.{State, carry, decimal, lines, onRead, row, sessi
 use Rattle.text_theorems.specs.Bounds.{session-step}
 use Rattle.text_theorems.specs.Left.{left-length}
 use Rattle.text_theorems.specs.Takes.{LeftR, command-left}
-use Rattle.steps.specs.FormLaws.{form-read, no-form}
-use Rattle.steps.specs.Forms.{formOf, readerOf}
+use Rattle.forms.specs.FormLaws.{form-read, no-form}
+use Rattle.forms.specs.Forms.{formOf, readerOf}
 use Rattle.steps.specs.Stepped.{Behind, Stepped, sessionOf}
-use Rattle.steps.specs.declared.Form.{Form}
-use Rattle.steps.specs.declared.Form.the-variants.{Nothing}
+use Rattle.forms.specs.declared.Form.{Form}
+use Rattle.forms.specs.declared.Form.the-variants.{Nothing}
 
 as-read : (i : ℕ) (s : State) (t : Text) (r : Read) → command t ≡ r
     → sessionOf i s t ≡ onRead (λ s′ u. sessionFrom (length u) (suc i) s′ u) i s r

@@ -30,7 +30,7 @@ use Rattle.text.specs.Bytes.{Text}
 use Rattle.text.specs.LentSlice.{fitsIn, hostFits, hostResult, hostSlice, listingIn, mostBytes, sliceAfter, stateAfter}
 use Rattle.text.specs.Session.{State, fresh, session}
 use Rattle.text.specs.Tables.{Tables}
-use Rattle.svcd.specs.Ran.{Ran}
+use Rattle.running.specs.Ran.{Ran}
 use Rattle.svcd.specs.Reached.{Leaves, SessionCall, answerOf, lengthOf, stateIn}
 
 -- ---- the listing

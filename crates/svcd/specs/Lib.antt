@@ -1,4 +1,2 @@
-pub mod Ran
-pub mod RanLaws
 pub mod Reached
 pub mod LeavesLaws

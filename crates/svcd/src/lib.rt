@@ -1,50 +1,11 @@
-// The session over a text and a lent slice (document 01, "Text and session").
+// The session over a text and a lent slice (document 01, "Text and session"), and the function for a host in C.
 ghost use mathlib.Core.Path.{_≡_};
 ghost use Rattle.states.specs.State.{Ready, stateOf};
 ghost use Rattle.text.specs.Session.{fresh};
-ghost use Rattle.svcd.specs.Ran.{Ran};
 ghost use Rattle.svcd.specs.Reached.{Leaves, SessionCall};
 ghost use Rattle.text.specs.LentSlice.{hostResult, hostSlice};
 use book::Book;
-use listing::Room;
 use names::Names;
-
-// The session of a text on a book and tables that are empty.
-fn run(
-    sets: &mut [u64; 576],
-    numbers: &mut [u8; 8768],
-    comps: &mut [u8; 1056],
-    vers: &mut [u8; 2112],
-    facs: &mut [u8; 2112],
-    impls: &mut [u8; 8448],
-    text: &[u8],
-    out: &mut [u8],
-) -> Room
-    requires { ⌜ Ready (now sets) (now numbers) (now comps) (now vers) (now facs) (now impls) ⌝ }
-    requires { ⌜ stateOf (now sets) (now numbers) (now comps) (now vers) (now facs) (now impls) ≡ fresh ⌝ }
-    ensures { λ r. ⌜ Ready (now (sets .exit)) (now (numbers .exit)) (now (comps .exit)) (now (vers .exit)) (now (facs .exit)) (now (impls .exit)) ⌝ }
-    ensures { λ r. ⌜ Ran (now (text .entry))
-        (stateOf (now (sets .exit)) (now (numbers .exit)) (now (comps .exit)) (now (vers .exit)) (now (facs .exit)) (now (impls .exit)))
-        r (now (out .entry)) (now (out .exit)) ⌝ }
-{
-    let mut room = Room {
-        fits: true,
-        left: out.len(),
-    };
-    let mut at = 0;
-    let mut i = 1;
-    loop {
-        let rest = reader::rest_of(text, at);
-        let s = steps::step(sets, numbers, comps, vers, facs, impls, rest, i, out, room);
-        if !s.more {
-            return s.room;
-        }
-        room = s.room;
-        let end = s.end;
-        at = reader::position_behind(text, at, end);
-        i += 1;
-    }
-}
 
 // An empty book and empty tables.
 fn clear_state(
@@ -90,7 +51,7 @@ fn list(
 {
     clear_state(sets, numbers, comps, vers, facs, impls);
     let n = out.len();
-    let room = run(sets, numbers, comps, vers, facs, impls, text, out);
+    let room = running::run(sets, numbers, comps, vers, facs, impls, text, out);
     if !room.fits {
         clear_state(sets, numbers, comps, vers, facs, impls);
         seqs::clear(out);

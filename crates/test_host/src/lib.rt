@@ -2,17 +2,17 @@
 // links them.
 ghost use mathlib.Core.Path.{_≡_};
 ghost use Rattle.rules.specs.Test as test;
-ghost use Rattle.commands.specs.Calls.{commandOf};
-ghost use Rattle.commands.specs.Outcome.{Called};
+ghost use Rattle.outcomes.specs.Calls.{commandOf};
+ghost use Rattle.outcomes.specs.Outcome.{Called};
 ghost use Rattle.demand.specs.Numbered.{callOf};
-ghost use Rattle.parts.specs.Listed.{Listed};
+ghost use Rattle.part_rows.specs.Listed.{Listed};
 use book::Book;
 
 #[no_mangle]
 pub extern "C" fn version_book_test<'a>(sets: &'a [u64; 576], numbers: &'a [u8; 8768]) -> bool
     ensures { λ r. ⌜ r ≡ test.passes (now (sets .entry)) (now (numbers .entry)) ⌝ }
 {
-    rules::passes(sets, numbers)
+    book_test::passes(sets, numbers)
 }
 
 // The call of a number, as in demand::call. The Book that it hands back is written into the last two arrays.

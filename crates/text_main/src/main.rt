@@ -57,7 +57,7 @@ fn show_slice(out: &[u8], len: usize) {
 }
 
 fn show_in(label: &[u8], b: Book, t: Names, out: &mut [u8]) {
-    let r = handed::text_of(b, t, out);
+    let r = book_text::text_of(b, t, out);
     io::write_all(1, label);
     print_number(b": ", r.answer as u64);
     print_last(b", bytes ", r.len as u64);

@@ -1,5 +1,5 @@
-use Rattle.commands.specs.OutcomeLaws.{refuse-25}
-use Rattle.commands.specs.Calls.{commandOf}
+use Rattle.outcomes.specs.OutcomeLaws.{refuse-25}
+use Rattle.outcomes.specs.Calls.{commandOf}
 use Rattle.requests.specs.Said.{implementationsSaid}
 use Rattle.rules.specs.TestLaws.{is-yes}
 use borrow.Author.Tests.{not-true}

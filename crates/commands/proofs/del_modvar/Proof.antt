@@ -1,4 +1,4 @@
-use Rattle.commands.specs.OutcomeLaws.{refuse-25}
+use Rattle.outcomes.specs.OutcomeLaws.{refuse-25}
 use Rattle.rules.specs.TestLaws.{is-yes}
 use borrow.Author.Tests.{not-true}
 use mathlib.Core.Path.{_∙_, sym}

@@ -1,5 +1,5 @@
 use borrow.Author.Needs.{needs}
-use Rattle.commands.specs.Calls.{commandOf}
+use Rattle.outcomes.specs.Calls.{commandOf}
 use Rattle.demand.specs.NumberedLaws.{called-as, is-0, is-1, is-2, is-3, is-4, is-5, is-6, is-7, is-8, is-9}
 use Rattle.demand.proofs.call.Statement.{statement}
 use Rattle.demand.proofs.call.Tie as tie

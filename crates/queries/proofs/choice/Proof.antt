@@ -1,4 +1,4 @@
-use Rattle.queries.specs.ChoiceLaws.{choice-25}
+use Rattle.replies.specs.ChoiceLaws.{choice-25}
 use Rattle.rules.specs.TestLaws.{is-yes}
 use borrow.Author.Needs.{needs}
 use Rattle.queries.proofs.choice.Statement.{statement}

@@ -1,8 +1,8 @@
 use borrow.Author.Needs.{needs}
 use Prim.Native.Nat.{zero-le}
 use mathlib.Core.Path.{_∙_, sym}
-use Rattle.steps.specs.FormLaws.{asks-some, changes-some}
-use Rattle.steps.specs.Forms.{readerOf}
+use Rattle.forms.specs.FormLaws.{asks-some, changes-some}
+use Rattle.forms.specs.Forms.{readerOf}
 use Rattle.steps.specs.StepLaws.{begun-inside, step-over, steps-behind, steps-nothing}
 use Rattle.steps.proofs.step.Statement.{statement}
 use Rattle.steps.proofs.step.Tie as tie

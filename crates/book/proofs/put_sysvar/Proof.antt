@@ -1,8 +1,0 @@
-use Rattle.book.specs.PutLaws.{sysvar-put}
-use borrow.Author.Needs.{needs}
-use Rattle.book.proofs.put_sysvar.Statement.{statement}
-use Rattle.book.proofs.put_sysvar.Tie as tie
-
-pub put-sysvar-spec : {M : Type 1} → statement M
-put-sysvar-spec = tie.close
-    (tie.spec (λ c κs. search needs) (λ c κs. search needs) (λ c. search needs) (λ c. search needs) (λ c. search needs) (λ c. search needs) (λ c. search needs) (λ c. search needs) (λ c. search needs) (λ c. search needs) (λ c. search needs) (λ c κs. search needs) (λ c. search (needs, sysvar-put)))

@@ -1,8 +1,0 @@
-use Rattle.book.specs.DefineLaws.{module-taken}
-use borrow.Author.Needs.{needs}
-use Rattle.book.proofs.take_mod.Statement.{statement}
-use Rattle.book.proofs.take_mod.Tie as tie
-
-pub take-mod-spec : {M : Type 1} → statement M
-take-mod-spec = tie.close
-    (tie.spec (λ c κs. search needs) (λ c. search needs) (λ c. search (needs, module-taken)))

@@ -1,8 +1,0 @@
-use Rattle.book.specs.DefineLaws.{spec-taken}
-use borrow.Author.Needs.{needs}
-use Rattle.book.proofs.take_spec.Statement.{statement}
-use Rattle.book.proofs.take_spec.Tie as tie
-
-pub take-spec-spec : {M : Type 1} → statement M
-take-spec-spec = tie.close
-    (tie.spec (λ c κs. search needs) (λ c. search needs) (λ c. search (needs, spec-taken)))

@@ -23,7 +23,7 @@ while IFS='|' read -r _ _ names file _; do
         check grep -qF -- "$name" "$path"
     done
 done < docs/CLAIMS.md
-for edit in $(grep -o 'crates/[a-z_]*/must-fail/[a-z_0-9]*\.edit' docs/CLAIMS.md | sort -u); do
+for edit in $(grep -oE '(crates/[a-z_]+/must-fail|tests/edits/[a-z_]+)/[a-z_0-9]+\.edit' docs/CLAIMS.md | sort -u); do
     check test -f "$edit"
 done
 echo "$passed passed, $failed failed"

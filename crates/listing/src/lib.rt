@@ -57,15 +57,21 @@ fn put_byte(out: &mut [u8], room: Room, byte: u8) -> Room
     put(out, room, &word)
 }
 
-// "Numbers are written in base ten."
+// "Numbers are written in base ten." The room is handed on in two numbers: a struct by value goes through memory at each call.
+fn put_digits(out: &mut [u8], fits: bool, left: usize, n: usize) -> Room
+    ensures { λ r. ⌜ Puts (decimal n) (record { fits = fits; left = left }) r (now (out .entry)) (now (out .exit)) ⌝ }
+{
+    if n < 10 {
+        return put_byte(out, Room { fits, left }, 48 + n as u8);
+    }
+    let front = put_digits(out, fits, left, n / 10);
+    put_byte(out, front, 48 + (n % 10) as u8)
+}
+
 pub fn put_number(out: &mut [u8], room: Room, n: usize) -> Room
     ensures { λ r. ⌜ Puts (decimal n) room r (now (out .entry)) (now (out .exit)) ⌝ }
 {
-    if n < 10 {
-        return put_byte(out, room, 48 + n as u8);
-    }
-    let front = put_number(out, room, n / 10);
-    put_byte(out, front, 48 + (n % 10) as u8)
+    put_digits(out, room.fits, room.left, n)
 }
 
 // ---- names of a table

@@ -1,28 +1,31 @@
 -- A word is a name, or an implementation: a law for each way out of the code.
-use mathlib.Core.Bool.{Bool, _&&_, false, true}
+use mathlib.Core.Bool.{Bool, _&&_, false, not, true}
 use mathlib.Core.List.{List, [], _∷_}
 use mathlib.Core.Logic.{inl, inr}
+use mathlib.Core.Option.{Option, none, some}
 use mathlib.Core.Path.{_∙_, _≡_, ap, ap₂, refl, sym}
 use Prim.Native.Nat.{_<_, _≤_, suc, ℕ}
 use native.Mathlib.Omega.{arith}
 use lib.Dec.{eqb, leb, ltb}
-use borrow.Author.Tests.{lt-ltb}
+use borrow.Author.Tests.{lt-ltb, not-true}
 use lib.ListN.{drop, drop-of-length-le, getD, length, length-drop}
 use Rattle.model.specs.Lists.{every, nonEmpty}
 use Rattle.model.specs.Maps.{isSome}
 use Rattle.sets.specs.TestLaws.{==-in, ==-out, and-false, and-in, and-l, and-r, bool?, clash, fails, if-true, iff→≡}
 use Rattle.sets.specs.TestLaws.{not-in, not-out, ≤?-in, ≤?-out}
+use Rattle.sets.specs.Sets.{bit}
 use Rattle.sets.specs.Tests.{_&_, _==_, _≤?_, if_then_else_}
-use Rattle.text.specs.Bytes.{Text, alnum, among, implByte, keywords, nameByte, nameWord, same, short, validImplementation}
+use Rattle.text.specs.Bytes.{Text, alnum, among, bytes, implByte, keywords, nameByte, nameWord, same, short, validImplementation}
 use Rattle.text.specs.Bytes.{validName}
 use Rattle.text.specs.Tables.{Table, nameAt, place}
 use Rattle.text.specs.Tokens.{past}
 use Rattle.text_theorems.specs.Places.{place-among, place-there}
+use Rattle.text_theorems.specs.TextLaws.{every-among}
 use Rattle.names.specs.declared.Found.{Found}
 use Rattle.names.specs.declared.Found.the-variants.{At, Nothing}
 use Rattle.names.specs.Stored.{answered, nameIn, tableOf}
 use Rattle.names.specs.UpToLastLaws.{last-at}
-use Rattle.words.specs.Reading.{RunsTo, inRun}
+use Rattle.words.specs.Reading.{RunsTo, inRun, keywordMarks, markOf}
 
 -- ---- keywords
 
@@ -31,6 +34,20 @@ pub held-at : (n : ℕ) (names : List ℕ) (w : Text) (k : ℕ) (r : Bool) → k
     → (t : Table) → tableOf n names ≡ t → r ≡ same w (nameAt t k)
 unfolding tableOf
 held-at n names w k r h e t q = e ∙ ap (same w) (sym (last-at n (nameIn names) k h) ∙ ap (λ (x : Table). nameAt x k) q)
+
+-- each keyword has one of the marks
+keywords-marked : every (λ w. bit keywordMarks (markOf w)) keywords ≡ true
+unfolding every bit markOf keywords bytes _&_ _==_
+keywords-marked = refl
+
+pub mark-none : (w : Text) (r : Bool) → r ≡ bit keywordMarks (markOf w) → not r ≡ true → answered Nothing ≡ place keywords w
+unfolding answered
+mark-none w r e n = by (place keywords w) refl
+  where
+    by : (o : Option ℕ) → place keywords w ≡ o → none ≡ place keywords w
+    by none q = sym q
+    by (some j) q =
+        clash (every-among (λ x. bit keywordMarks (markOf x)) keywords w keywords-marked (place-among keywords w j q)) (sym e ∙ not-true r n)
 
 -- ---- a word that was read
 

@@ -2,8 +2,8 @@
 use mathlib.Core.Bool.{Bool, false, true}
 use mathlib.Core.Option.{Option, none, some}
 use mathlib.Core.Path.{_≡_}
-use Prim.Native.Nat.{_+_, _-_, _<_, _≤_, ℕ}
-use lib.ListN.{drop, length, take}
+use Prim.Native.Nat.{_%_, _+_, _-_, _<_, _≤_, ℕ}
+use lib.ListN.{drop, getD, length, take}
 use Rattle.sets.specs.Tests.{_==_, _or_, ~_}
 use Rattle.text.specs.Bytes.{Text, implByte, nameByte, white}
 use Rattle.text.specs.Tokens.{Next, bad, closing, end, mark, past, quoted, run, skip, token, word}
@@ -78,3 +78,13 @@ ReadsWithin t at Bad = Unit {0}
 pub record Reads (t : Text) (at : ℕ) (n : Next) (r : Token) : Type 0 where
   pub is : nextOf t r ≡ n
   pub within : ReadsWithin t at r
+
+-- ---- keywords
+
+-- the mark of a word: the sum of its first and its last byte, below 64
+unfoldable pub markOf : Text → ℕ
+markOf w = (getD w 0 0 + getD w (length w - 1) 0) % 64
+
+-- the marks of the keywords
+abbrev pub keywordMarks : ℕ
+keywordMarks = 457663710080

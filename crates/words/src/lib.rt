@@ -4,10 +4,11 @@ ghost use mathlib.Core.Path.{_≡_};
 ghost use mathlib.Core.Bool.{true};
 ghost use Prim.Native.Nat.{_<_, _≤_, _-_};
 ghost use lib.ListN.{length, take, drop};
+ghost use Rattle.sets.specs.Sets.{bit};
 ghost use Rattle.text.specs.Bytes.{same, short, white, alnum, isMark, keywords, nameWord, validName, validImplementation};
 ghost use Rattle.text.specs.Tables.{nameAt, place};
 ghost use Rattle.text.specs.Tokens.{tokenAt, nextToken};
-ghost use Rattle.words.specs.Reading.{passes, staysOpen, inRun, Skips, RunsTo, quotedFrom, Reads};
+ghost use Rattle.words.specs.Reading.{passes, staysOpen, inRun, Skips, RunsTo, quotedFrom, Reads, keywordMarks, markOf};
 ghost use Rattle.names.specs.Stored.{answered};
 
 // Where the next token or the end of the text stands; or a comment is left open.
@@ -202,11 +203,33 @@ const KEYWORDS: [u8; 924] = *b"\
     \x09delsysvar\0\0\0\0\0\0\0\0\0\0\0\0\0\0\0\0\0\0\0\0\0\0\0\
     \x05parts\0\0\0\0\0\0\0\0\0\0\0\0\0\0\0\0\0\0\0\0\0\0\0\0\0\0\0";
 
+// The marks of the keywords, as a set of numbers below 64.
+const KEYWORD_MARKS: u64 = 457663710080;
+
+fn wide(x: u8) -> usize
+    ensures { λ r. ⌜ r ≡ x ⌝ }
+{
+    x as usize
+}
+
+// Whether a word has the mark of a keyword. Most names have not, and need no lookup.
+fn is_marked(word: &[u8]) -> bool
+    requires { ⌜ short (now word) ≡ true ⌝ }
+    ensures { λ r. ⌜ r ≡ bit keywordMarks (markOf (now (word .entry))) ⌝ }
+{
+    let last = word.len() - 1;
+    let mark = (wide(word[0]) + wide(word[last])) % 64;
+    sets::member(KEYWORD_MARKS, mark)
+}
+
 // The number of the keyword that a word is, if it is one.
 pub fn keyword_of(word: &[u8]) -> names::Found
     requires { ⌜ short (now word) ≡ true ⌝ }
     ensures { λ r. ⌜ answered r ≡ place keywords (now (word .entry)) ⌝ }
 {
+    if !is_marked(word) {
+        return names::Found::Nothing;
+    }
     names::lookup(&KEYWORDS, 28, word)
 }
 

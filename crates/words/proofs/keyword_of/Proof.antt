@@ -3,15 +3,18 @@ use mathlib.Core.Path.{refl}
 use Rattle.sets.specs.Tests.{_≤?_, if_then_else_}
 use Rattle.text.specs.Bytes.{bytes, keywords}
 use Rattle.names.specs.Stored.{before, nameIn, tableOf, upToLast}
+use Rattle.words.specs.NameLaws.{mark-none}
 use Rattle.words.proofs.keyword_of.Statement.{statement}
 use Rattle.words.proofs.keyword_of.Tie as tie
 
 lookup-requires : tie.Need-lookup-requires
-lookup-requires c κs = (refl, c .before .before .pre)
+lookup-requires c κs = (refl, c .before .before .before .before .pre)
 
-returns : tie.Need-returns
+returns-2 : tie.Need-returns-2
 unfolding tableOf upToLast before nameIn if_then_else_ _≤?_ keywords bytes
-returns c = c .lookup .ensures
+returns-2 c = c .lookup .ensures
 
 pub keyword-of-spec : {M : Type 1} → statement M
-keyword-of-spec = tie.close (tie.spec (λ c. search needs) lookup-requires returns)
+keyword-of-spec = tie.close
+    (tie.spec (λ c κs. search needs) (λ c. mark-none _ _ (c .before .is-marked .ensures) (c .if1 .taken)) (λ c. search needs) lookup-requires
+    returns-2)

@@ -25,7 +25,7 @@ use Rattle.names.specs.declared.Found.{Found}
 use Rattle.names.specs.declared.Found.the-variants.{At, Nothing}
 use Rattle.names.specs.Stored.{answered, nameIn, tableOf}
 use Rattle.names.specs.UpToLastLaws.{last-at}
-use Rattle.words.specs.Reading.{RunsTo, inRun, keywordMarks, markOf}
+use Rattle.words.specs.Reading.{RunsTo, inRun, keywordHashes, hashOf}
 
 -- ---- keywords
 
@@ -35,19 +35,19 @@ pub held-at : (n : ℕ) (names : List ℕ) (w : Text) (k : ℕ) (r : Bool) → k
 unfolding tableOf
 held-at n names w k r h e t q = e ∙ ap (same w) (sym (last-at n (nameIn names) k h) ∙ ap (λ (x : Table). nameAt x k) q)
 
--- each keyword has one of the marks
-keywords-marked : every (λ w. bit keywordMarks (markOf w)) keywords ≡ true
-unfolding every bit markOf keywords bytes _&_ _==_
-keywords-marked = refl
+-- each keyword has one of the hashes
+keywords-hashed : every (λ w. bit keywordHashes (hashOf w)) keywords ≡ true
+unfolding every bit hashOf keywords bytes _&_ _==_
+keywords-hashed = refl
 
-pub mark-none : (w : Text) (r : Bool) → r ≡ bit keywordMarks (markOf w) → not r ≡ true → answered Nothing ≡ place keywords w
+pub hash-none : (w : Text) (r : Bool) → r ≡ bit keywordHashes (hashOf w) → not r ≡ true → answered Nothing ≡ place keywords w
 unfolding answered
-mark-none w r e n = by (place keywords w) refl
+hash-none w r e n = by (place keywords w) refl
   where
     by : (o : Option ℕ) → place keywords w ≡ o → none ≡ place keywords w
     by none q = sym q
     by (some j) q =
-        clash (every-among (λ x. bit keywordMarks (markOf x)) keywords w keywords-marked (place-among keywords w j q)) (sym e ∙ not-true r n)
+        clash (every-among (λ x. bit keywordHashes (hashOf x)) keywords w keywords-hashed (place-among keywords w j q)) (sym e ∙ not-true r n)
 
 -- ---- a word that was read
 

@@ -81,10 +81,10 @@ pub record Reads (t : Text) (at : ℕ) (n : Next) (r : Token) : Type 0 where
 
 -- ---- keywords
 
--- the mark of a word: the sum of its first and its last byte, below 64
-unfoldable pub markOf : Text → ℕ
-markOf w = (getD w 0 0 + getD w (length w - 1) 0) % 64
+-- the hash of a word: the sum of its first and its last byte, below 64
+unfoldable pub hashOf : Text → ℕ
+hashOf w = (getD w 0 0 + getD w (length w - 1) 0) % 64
 
--- the marks of the keywords
-abbrev pub keywordMarks : ℕ
-keywordMarks = 457663710080
+-- the hashes of the keywords, as a set of numbers below 64
+abbrev pub keywordHashes : ℕ
+keywordHashes = 457663710080

@@ -8,7 +8,7 @@ ghost use Rattle.sets.specs.Sets.{bit};
 ghost use Rattle.text.specs.Bytes.{same, short, white, alnum, isMark, keywords, nameWord, validName, validImplementation};
 ghost use Rattle.text.specs.Tables.{nameAt, place};
 ghost use Rattle.text.specs.Tokens.{tokenAt, nextToken};
-ghost use Rattle.words.specs.Reading.{passes, staysOpen, inRun, Skips, RunsTo, quotedFrom, Reads, keywordMarks, markOf};
+ghost use Rattle.words.specs.Reading.{passes, staysOpen, inRun, Skips, RunsTo, quotedFrom, Reads, keywordHashes, hashOf};
 ghost use Rattle.names.specs.Stored.{answered};
 
 // Where the next token or the end of the text stands; or a comment is left open.
@@ -203,8 +203,8 @@ const KEYWORDS: [u8; 924] = *b"\
     \x09delsysvar\0\0\0\0\0\0\0\0\0\0\0\0\0\0\0\0\0\0\0\0\0\0\0\
     \x05parts\0\0\0\0\0\0\0\0\0\0\0\0\0\0\0\0\0\0\0\0\0\0\0\0\0\0\0";
 
-// The marks of the keywords, as a set of numbers below 64.
-const KEYWORD_MARKS: u64 = 457663710080;
+// The hashes of the keywords, as a set of numbers below 64.
+const KEYWORD_HASHES: u64 = 457663710080;
 
 fn wide(x: u8) -> usize
     ensures { λ r. ⌜ r ≡ x ⌝ }
@@ -212,14 +212,14 @@ fn wide(x: u8) -> usize
     x as usize
 }
 
-// Whether a word has the mark of a keyword. Most names have not, and need no lookup.
-fn is_marked(word: &[u8]) -> bool
+// Whether a word has the hash of a keyword. Most names have not, and need no lookup.
+fn may_be_keyword(word: &[u8]) -> bool
     requires { ⌜ short (now word) ≡ true ⌝ }
-    ensures { λ r. ⌜ r ≡ bit keywordMarks (markOf (now (word .entry))) ⌝ }
+    ensures { λ r. ⌜ r ≡ bit keywordHashes (hashOf (now (word .entry))) ⌝ }
 {
     let last = word.len() - 1;
-    let mark = (wide(word[0]) + wide(word[last])) % 64;
-    sets::member(KEYWORD_MARKS, mark)
+    let hash = (wide(word[0]) + wide(word[last])) % 64;
+    sets::member(KEYWORD_HASHES, hash)
 }
 
 // The number of the keyword that a word is, if it is one.
@@ -227,7 +227,7 @@ pub fn keyword_of(word: &[u8]) -> names::Found
     requires { ⌜ short (now word) ≡ true ⌝ }
     ensures { λ r. ⌜ answered r ≡ place keywords (now (word .entry)) ⌝ }
 {
-    if !is_marked(word) {
+    if !may_be_keyword(word) {
         return names::Found::Nothing;
     }
     names::lookup(&KEYWORDS, 28, word)

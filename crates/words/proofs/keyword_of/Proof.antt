@@ -3,7 +3,7 @@ use mathlib.Core.Path.{refl}
 use Rattle.sets.specs.Tests.{_≤?_, if_then_else_}
 use Rattle.text.specs.Bytes.{bytes, keywords}
 use Rattle.names.specs.Stored.{before, nameIn, tableOf, upToLast}
-use Rattle.words.specs.NameLaws.{mark-none}
+use Rattle.words.specs.NameLaws.{hash-none}
 use Rattle.words.proofs.keyword_of.Statement.{statement}
 use Rattle.words.proofs.keyword_of.Tie as tie
 
@@ -16,5 +16,5 @@ returns-2 c = c .lookup .ensures
 
 pub keyword-of-spec : {M : Type 1} → statement M
 keyword-of-spec = tie.close
-    (tie.spec (λ c κs. search needs) (λ c. mark-none _ _ (c .before .is-marked .ensures) (c .if1 .taken)) (λ c. search needs) lookup-requires
+    (tie.spec (λ c κs. search needs) (λ c. hash-none _ _ (c .before .may-be-keyword .ensures) (c .if1 .taken)) (λ c. search needs) lookup-requires
     returns-2)

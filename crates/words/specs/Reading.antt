@@ -2,7 +2,7 @@
 use mathlib.Core.Bool.{Bool, false, true}
 use mathlib.Core.Option.{Option, none, some}
 use mathlib.Core.Path.{_≡_}
-use Prim.Native.Nat.{_%_, _+_, _-_, _<_, _≤_, ℕ}
+use Prim.Native.Nat.{_%_, _*_, _+_, _-_, _<_, _≤_, ℕ}
 use lib.ListN.{drop, getD, length, take}
 use Rattle.sets.specs.Tests.{_==_, _or_, ~_}
 use Rattle.text.specs.Bytes.{Text, implByte, nameByte, white}
@@ -81,10 +81,10 @@ pub record Reads (t : Text) (at : ℕ) (n : Next) (r : Token) : Type 0 where
 
 -- ---- keywords
 
--- the mark of a word: the sum of its first and its last byte, below 64
+-- the mark of a word, below 64: of its last byte and its length
 unfoldable pub markOf : Text → ℕ
-markOf w = (getD w 0 0 + getD w (length w - 1) 0) % 64
+markOf w = (getD w (length w - 1) 0 + 8 * length w) % 64
 
 -- the marks of the keywords
 abbrev pub keywordMarks : ℕ
-keywordMarks = 457663710080
+keywordMarks = 8360950420800018440

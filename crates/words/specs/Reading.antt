@@ -2,7 +2,7 @@
 use mathlib.Core.Bool.{Bool, false, true}
 use mathlib.Core.Option.{Option, none, some}
 use mathlib.Core.Path.{_≡_}
-use Prim.Native.Nat.{_%_, _+_, _-_, _<_, _≤_, ℕ}
+use Prim.Native.Nat.{_%_, _*_, _+_, _-_, _<_, _≤_, ℕ}
 use lib.ListN.{drop, getD, length, take}
 use Rattle.sets.specs.Tests.{_==_, _or_, ~_}
 use Rattle.text.specs.Bytes.{Text, implByte, nameByte, white}
@@ -81,10 +81,10 @@ pub record Reads (t : Text) (at : ℕ) (n : Next) (r : Token) : Type 0 where
 
 -- ---- keywords
 
--- the hash of a word: the sum of its first and its last byte, below 64
+-- the hash of a word, below 64: of its last byte and its length
 unfoldable pub hashOf : Text → ℕ
-hashOf w = (getD w 0 0 + getD w (length w - 1) 0) % 64
+hashOf w = (getD w (length w - 1) 0 + 8 * length w) % 64
 
 -- the hashes of the keywords, as a set of numbers below 64
 abbrev pub keywordHashes : ℕ
-keywordHashes = 457663710080
+keywordHashes = 8360950420800018440

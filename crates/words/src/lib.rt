@@ -204,7 +204,7 @@ const KEYWORDS: [u8; 924] = *b"\
     \x05parts\0\0\0\0\0\0\0\0\0\0\0\0\0\0\0\0\0\0\0\0\0\0\0\0\0\0\0";
 
 // The hashes of the keywords, as a set of numbers below 64.
-const KEYWORD_HASHES: u64 = 457663710080;
+const KEYWORD_HASHES: u64 = 8360950420800018440;
 
 fn wide(x: u8) -> usize
     ensures { λ r. ⌜ r ≡ x ⌝ }
@@ -218,7 +218,7 @@ fn may_be_keyword(word: &[u8]) -> bool
     ensures { λ r. ⌜ r ≡ bit keywordHashes (hashOf (now (word .entry))) ⌝ }
 {
     let last = word.len() - 1;
-    let hash = (wide(word[0]) + wide(word[last])) % 64;
+    let hash = (wide(word[last]) + 8 * word.len()) % 64;
     sets::member(KEYWORD_HASHES, hash)
 }
 

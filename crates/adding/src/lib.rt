@@ -66,7 +66,7 @@ pub fn answer_sysvar(sets: &mut [u64; 576], numbers: &mut [u8; 8768], r: SysvarR
     additions::add_sysvar_in(sets, numbers, r.component, r.version, composition) as usize
 }
 
-// ---- the commands
+// ---- no request
 
 // Where a text question has its no: the command is not of the language, and only if it is there is no place for one of its names.
 pub fn unasked(there: bool, at: usize, end: usize) -> Decision

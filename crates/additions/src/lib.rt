@@ -1,4 +1,5 @@
-// The five adding commands, on a Book that is known to pass the test for 25. They take what is gathered of the lists.
+// The five adding commands, on a Book that is known to pass the test for 25. What is gathered of a command's lists goes in, and the call
+// answers for every command of which that is gathered.
 ghost use mathlib.Core.Path.{_≡_};
 ghost use mathlib.Core.Bool.{true};
 ghost use mathlib.Core.List.{List};
@@ -17,9 +18,6 @@ use requests::Compositions;
 use requests::Numbers;
 use requests::Sets;
 use requests::Usable;
-
-// ---- the adding commands, on a Book that passes the test for 25: what is gathered of a command's lists goes in, and the call answers
-// for every command of which that is gathered
 
 // ADD-SPEC.
 pub fn add_spec_in(

@@ -130,7 +130,7 @@ pub fn put_listed<'a>(
     put_pairs(out, a, i, comps, vers, rows, count)
 }
 
-// ---- of a component
+// ---- which query is asked
 
 // A query of one component.
 pub enum OfComponent {
@@ -138,8 +138,6 @@ pub enum OfComponent {
     Standard,
     WhereUsed,
 }
-
-// ---- of a version
 
 // A query of a component with a version.
 pub enum OfVersion {

@@ -355,7 +355,7 @@ pub fn is_proper<'a>(sets: &'a [u64; 576], numbers: &'a [u8; 8768]) -> bool
     true
 }
 
-// ---- writers
+// ---- what the writers of book_put and book_take use
 
 // Of arrays behind references the prover does not know how long they are. Of arrays by value it does; nothing is left of this in the
 // compiled code.

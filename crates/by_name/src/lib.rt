@@ -7,8 +7,6 @@ ghost use Rattle.text.specs.Written.{before};
 ghost use Rattle.names.specs.Stored.{tableOf};
 ghost use Rattle.listing.specs.ByName.{firstWith, firstByName};
 
-// ---- the order of names
-
 // "by rising bytes of the name (a name before its extensions)"
 fn comes_before(a: &[u8], b: &[u8]) -> bool
     ensures { λ r. ⌜ r ≡ before (now (a .entry)) (now (b .entry)) ⌝ }

@@ -16,8 +16,6 @@ ghost use Rattle.replies.specs.Listed.{Listed, fitted, rowOf};
 ghost use Rattle.replies.specs.Found.{chosenAt, Chosen, rowIn};
 use replies::Pairs;
 
-// ---- pairs
-
 // The versions of c that are chosen: all where c provides the facilities wanted, else none.
 fn chosen_versions<'a>(sets: &'a [u64; 576], numbers: &'a [u8; 8768], c: usize, wanted: u64) -> u64
     requires { ⌜ c < 32 ⌝ }

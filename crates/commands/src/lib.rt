@@ -11,8 +11,6 @@ pub struct Outcome {
     pub book: Book,
 }
 
-// ---- the public calls
-
 // ADD-SPEC, on any Book: the facilities provided as a set; versions, and for each the set of the facilities that it requires.
 pub fn add_spec<'a>(
     b: Book,

@@ -11,8 +11,6 @@ ghost use Rattle.book.specs.Plain.{specsOf, systemsOf};
 ghost use Rattle.rules.specs.Table.{Kept};
 ghost use Rattle.rules.specs.CompositionLaws.{memberOk, wantedIf};
 
-// ---- B5 to B9 of one composition
-
 fn member_ok<'a>(
     sets: &'a [u64; 576],
     numbers: &'a [u8; 8768],

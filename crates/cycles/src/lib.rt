@@ -9,8 +9,6 @@ ghost use Rattle.book.specs.Plain.{systemsOf};
 ghost use Rattle.rules.specs.RuleLaws.{ifSystem};
 ghost use Rattle.rules.specs.Closure.{Rows, joinOf, selfFree};
 
-// ---- B4
-
 // What each component may use.
 fn usable_rows<'a>(sets: &'a [u64; 576], numbers: &'a [u8; 8768]) -> [u64; 32]
     ensures { λ r. ⌜ Rows (systemsOf (now (sets .entry)) (now (numbers .entry))) 0 r ⌝ }

@@ -247,7 +247,7 @@ pub fn names_hold<'a>(
     named & (comps_once & (vers_once & (facs_once & impls_once)))
 }
 
-// ---- the call
+// ---- what the call on them answers (crate book_text)
 
 // The answer, and how many bytes were written.
 pub struct Text {

@@ -249,7 +249,7 @@ pub fn read_name(text: &[u8], at: usize) -> Part
     }
 }
 
-// ---- names put into a table
+// ---- what is collected: names put into a table
 
 // The place of a name in its table, or 0 where there was no room for it.
 pub struct Entry {

@@ -16,8 +16,6 @@ ghost use Rattle.model.specs.Book.{isMember};
 ghost use Rattle.book.specs.Plain.{plainOf, systemsOf};
 use listing::Room;
 
-// ---- pieces of a line
-
 pub fn put_if(out: &mut [u8], room: Room, asked: bool, word: &[u8]) -> Room
     ensures { λ r. ⌜ Puts (if asked then now (word .entry) else []) room r (now (out .entry)) (now (out .exit)) ⌝ }
 {

@@ -10,8 +10,6 @@ use replies::Facilities;
 use replies::Pairs;
 use replies::Version;
 
-// ---- the public calls
-
 // SUPPLIES, on any Book.
 pub fn supplies(b: Book, c: usize) -> Facilities
     ensures { λ r. ⌜ Replied facilitiesIn (r .answer) (r .set) (repliedTo (b .sets) (b .numbers) (SUPPLIES c)) ⌝ }

@@ -14,8 +14,6 @@ ghost use Rattle.replies.specs.Replied.{Replied, repliedTo, numbersIn, componen
 ghost use Rattle.replies.specs.Found.{undefinedAt, used, unusedAt, usesAt};
 use replies::Components;
 
-// ---- sets of components
-
 // Component c is specified and not defined.
 fn is_undefined<'a>(sets: &'a [u64; 576], numbers: &'a [u8; 8768], c: usize) -> bool
     requires { ⌜ c < 32 ⌝ }

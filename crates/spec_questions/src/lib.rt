@@ -8,8 +8,6 @@ ghost use Rattle.requests.specs.Answers.{specAnswer};
 ghost use Rattle.questions.specs.Asked.{freeAt};
 use requests::Sets;
 
-// ---- ADD-SPEC
-
 // Question 13, for one version: is what it requires, if it is listed, free of the facilities provided?
 fn is_free(provided: u64, listed: bool, required: u64) -> bool
     ensures { λ r. ⌜ r ≡ (listed ⇒ disjoint 64 (bit provided) (facilitySet required)) ⌝ }

@@ -1,4 +1,4 @@
-//! The proved functions of crate `test_host`, as a host calls them.
+//! The proved functions of crate `bench_host`, as a host calls them.
 
 use crate::raw::Raw;
 use plain::book::{Number, Pair, LEFT_OUT};
@@ -50,7 +50,7 @@ pub fn test(raw: &Raw) -> bool {
     unsafe { version_book_test(&raw.sets, &raw.numbers) }
 }
 
-/// What a call carries, in the form of `demand::call`.
+/// What a call carries, in the form of `demand_3::call`.
 #[derive(Default)]
 pub struct Carried {
     kind: usize,

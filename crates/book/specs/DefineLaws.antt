@@ -27,9 +27,9 @@ use Rattle.model.specs.Commands.{DEL-MOD, DEL-SPEC, DEL-SYS, after, stored}
 use Rattle.model.specs.Maps.{Map, isSome, onlyIf, optionMap, put}
 use Rattle.sets.specs.TestLaws.{<?-in, ==-not, ==-same, and-true, clash, fails, if-true, not-in, same?}
 use Rattle.sets.specs.Tests.{_==_}
-use Rattle.theorems.specs.Accepted.{not-defined}
-use Rattle.theorems.specs.MapLaws.{isSome-in, option?}
-use Rattle.theorems.specs.Notions.{distinct}
+use Rattle.model_laws.specs.Accepted.{not-defined}
+use Rattle.model_laws.specs.MapLaws.{isSome-in, option?}
+use Rattle.model_laws.specs.Notions.{distinct}
 use types.Kit.{done}
 
 -- ---- the kind of c is set to k, with what stands at its places; its versions and its specification stay

@@ -19,8 +19,8 @@ use Rattle.model.specs.Rules.{p}
 use Rattle.sets.specs.TestLaws.{<?-in, <?-out, ==-in, ==-no, ==-not, ==-out, all-in, all-out, and-in, and-l, and-r, if-true, imp-in}
 use Rattle.sets.specs.TestLaws.{imp-out, not-in, not-out, ≤?-in, ≤?-out}
 use Rattle.sets.specs.Tests.{count}
-use Rattle.theorems.specs.MapLaws.{optionMap-some}
-use Rattle.theorems.specs.Notions.{distinct}
+use Rattle.model_laws.specs.MapLaws.{optionMap-some}
+use Rattle.model_laws.specs.Notions.{distinct}
 
 module _ (s n : List ℕ) (c : ℕ) where
   -- the facts behind the test, of a component that is specified

@@ -28,9 +28,9 @@ use Rattle.model.specs.Queries.{undefined}
 use Rattle.sets.specs.SetLaws.{bit-below, bit-limit, bit-zero}
 use Rattle.sets.specs.Sets.{Set, bit}
 use Rattle.sets.specs.TestLaws.{==-not, ==-out, and-no, and-r, bool?, clash, fails, if-true, not-in, same?}
-use Rattle.theorems.specs.Accepted.{not-defined}
-use Rattle.theorems.specs.MapLaws.{isSome-no, isSome-out, optionMap-some}
-use Rattle.theorems.specs.Notions.{distinct, here}
+use Rattle.model_laws.specs.Accepted.{not-defined}
+use Rattle.model_laws.specs.MapLaws.{isSome-no, isSome-out, optionMap-some}
+use Rattle.model_laws.specs.Notions.{distinct, here}
 use mir.Syntax.{w64, w8}
 use mir.Val.{Fits}
 use Rattle.sets.specs.Sets as sets

@@ -19,10 +19,10 @@ use Rattle.model.specs.Rules.{B5, B5at, eachComposition, p, r}
 use Rattle.sets.specs.Sets.{Set}
 use Rattle.sets.specs.TestLaws.{<?-out, ==-not, ==-out, all-out, and-in, and-l, and-r, bool?, if-false, if-true, imp-out, not-in}
 use Rattle.sets.specs.Tests.{_&_, if_then_else_}
-use Rattle.theorems.specs.Frame.{composed-system, member-composed}
-use Rattle.theorems.specs.ListLaws.{only-some}
-use Rattle.theorems.specs.MapLaws.{andThen-out, has-map, has-out, if-there-out, isSome-out, no-some, optionMap-out, optionMap-some}
-use Rattle.theorems.specs.MapLaws.{then-map}
+use Rattle.model_laws.specs.Frame.{composed-system, member-composed}
+use Rattle.model_laws.specs.ListLaws.{only-some}
+use Rattle.model_laws.specs.MapLaws.{andThen-out, has-map, has-out, if-there-out, isSome-out, no-some, optionMap-out, optionMap-some}
+use Rattle.model_laws.specs.MapLaws.{then-map}
 use Rattle.sets.specs.Sets as sets
 
 pub isSome-only : {A : Type 0} (t : Bool) (x : A) → isSome (onlyIf t x) ≡ t

@@ -24,8 +24,8 @@ use Rattle.sets.specs.Sets.{Set, bit}
 use Rattle.sets.specs.TestLaws.{<?-in, <?-no, <?-out, ==-in, ==-no, ==-not, and-false, and-in, and-no, and-true, bool?, fails}
 use Rattle.sets.specs.TestLaws.{if-false, if-true, not-in, not-out}
 use Rattle.sets.specs.Tests.{_<?_, _==_, ~_}
-use Rattle.theorems.specs.ListLaws.{only-some}
-use Rattle.theorems.specs.MapLaws.{isSome-in, isSome-out, no-some, option?, optionMap-out, optionMap-some}
+use Rattle.model_laws.specs.ListLaws.{only-some}
+use Rattle.model_laws.specs.MapLaws.{isSome-in, isSome-out, no-some, option?, optionMap-out, optionMap-some}
 use Rattle.sets.specs.Sets as sets
 
 no-version : (n : List ℕ) (c v : ℕ) → slot (slotsOf n c) v ≡ none → placeOf n c v ≡ none

@@ -21,7 +21,7 @@ use Rattle.sets.specs.Sets.{Set}
 use Rattle.sets.specs.TestLaws.{<?-no, <?-out, ==-no, all-in, all-out, all-same, and-false, bool?, fails, if-true, imp-in, imp-out}
 use Rattle.sets.specs.TestLaws.{not-out, same?}
 use Rattle.sets.specs.Tests.{_&_, _<?_, _==_, _⇒_, _≤?_, if_then_else_, ~_}
-use Rattle.theorems.specs.MapLaws.{optionMap-out}
+use Rattle.model_laws.specs.MapLaws.{optionMap-out}
 
 -- what stands in the head of a component
 pub record SameHead (s n s′ n′ : List ℕ) (c : ℕ) : Type 0 where

@@ -19,10 +19,10 @@ use Rattle.sets.specs.TestLaws.{<?-in, <?-no, <?-out, ==-in, ==-no, ==-not, ==-
 use Rattle.sets.specs.TestLaws.{and-swap, and-true, any-in, any-out, bool?, clash, count-mono, count-strict, fails, if-false}
 use Rattle.sets.specs.TestLaws.{if-true, iff→≡, or-false, same?}
 use Rattle.sets.specs.Tests.{_&_, _<?_, _==_, _or_, any, count, if_then_else_}
-use Rattle.theorems.specs.KeepModules.{gone}
-use Rattle.theorems.specs.ListLaws.{firstFrom-least, firstFrom-none, firstFrom-some, only-none, only-some}
-use Rattle.theorems.specs.MapLaws.{isSome-in, isSome-out, no-some, option?}
-use Rattle.theorems.specs.Notions.{here}
+use Rattle.model_laws.specs.KeepModules.{gone}
+use Rattle.model_laws.specs.ListLaws.{firstFrom-least, firstFrom-none, firstFrom-some, only-none, only-some}
+use Rattle.model_laws.specs.MapLaws.{isSome-in, isSome-out, no-some, option?}
+use Rattle.model_laws.specs.Notions.{here}
 
 firstFrom-same : {A : Type 0} (k i : ℕ) (f g : ℕ → Option A) → ((m : ℕ) → i ≤ m → m < i + k → f m ≡ g m) → firstFrom k i f ≡ firstFrom k i g
 unfolding firstFrom

@@ -31,9 +31,9 @@ use Rattle.sets.specs.Sets.{Set, bit}
 use Rattle.sets.specs.TestLaws.{<?-in, <?-no, <?-out, and-false, and-in, and-no, and-r, bool?, clash, count-strict, fails, iff→≡}
 use Rattle.sets.specs.TestLaws.{or-false, same?}
 use Rattle.sets.specs.Tests.{_&_, _<?_, _or_, count, if_then_else_}
-use Rattle.theorems.specs.Alike.{hasVersion-at}
-use Rattle.theorems.specs.MapLaws.{isSome-in, put-other, put-same}
-use Rattle.theorems.specs.Notions.{distinct, here}
+use Rattle.model_laws.specs.Alike.{hasVersion-at}
+use Rattle.model_laws.specs.MapLaws.{isSome-in, put-other, put-same}
+use Rattle.model_laws.specs.Notions.{distinct, here}
 use mir.Syntax.{w64}
 use mir.Val.{Fits}
 use types.Kit.{done}

@@ -23,7 +23,7 @@ use Rattle.model.specs.Maps.{Map, isSome, onlyIf, optionMap, put}
 use Rattle.sets.specs.SetLaws.{bit-below, bit-limit}
 use Rattle.sets.specs.Sets.{Set, bit}
 use Rattle.sets.specs.TestLaws.{<?-in, ==-not, ==-same, and-in, any-in, bool?, if-true, same?}
-use Rattle.theorems.specs.MapLaws.{isSome-in, option?, optionMap-some}
+use Rattle.model_laws.specs.MapLaws.{isSome-in, option?, optionMap-some}
 use types.Kit.{done}
 use Rattle.sets.specs.Sets as sets
 

@@ -20,7 +20,7 @@ use Rattle.model.specs.Maps.{Map, change, onlyIf, optionMap, put}
 use Rattle.model.specs.Rules.{p}
 use Rattle.sets.specs.TestLaws.{if-true, same?}
 use Rattle.sets.specs.Tests.{if_then_else_}
-use Rattle.theorems.specs.MapLaws.{put-other, put-same}
+use Rattle.model_laws.specs.MapLaws.{put-other, put-same}
 
 -- ---- maps
 

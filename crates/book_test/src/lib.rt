@@ -6,12 +6,12 @@ ghost use Rattle.sets.specs.Tests.{all};
 ghost use Rattle.sets.specs.Sets.{bit};
 ghost use Rattle.model.specs.Book.{hasVersion, isSystem};
 ghost use Rattle.model.specs.Rules.{B4, B5, B6, B7, B8, B9, B5-to-B9, eachComposition};
-ghost use Rattle.theorems.specs.Heights.{Sound};
+ghost use Rattle.model_laws.specs.Heights.{Sound};
 ghost use Rattle.book.specs.Plain.{plainOf, specsOf, systemsOf};
-ghost use Rattle.rules.specs.Table.{Kept};
-ghost use Rattle.rules.specs.RuleLaws.{unspecified};
-ghost use Rattle.rules.specs.CompositionLaws.{ruleAt, ifComposed, ofSystem};
-ghost use Rattle.rules.specs.Test as test;
+ghost use Rattle.book_rules.specs.Table.{Kept};
+ghost use Rattle.book_rules.specs.RuleLaws.{unspecified};
+ghost use Rattle.book_rules.specs.CompositionLaws.{ruleAt, ifComposed, ofSystem};
+ghost use Rattle.book_rules.specs.Test as test;
 use book::Book;
 
 // ---- a rule of every composition, by its number. Only B5 may be asked before B4 and B5 are known.
@@ -31,18 +31,18 @@ fn rule_at<'a>(
     ensures { λ r. ⌜ Kept (specsOf (now (sets .entry)) (now (numbers .entry))) (systemsOf (now (sets .entry)) (now (numbers .entry))) (now (table .exit)) ⌝ }
 {
     if k == 5 {
-        return compositions::b5_at(sets, numbers, s, v);
+        return book_compositions::b5_at(sets, numbers, s, v);
     }
     if k == 6 {
-        return compositions::b6_at(sets, numbers, s, v);
+        return book_compositions::b6_at(sets, numbers, s, v);
     }
     if k == 7 {
-        return compositions::b7_at(sets, numbers, s, v, table);
+        return book_compositions::b7_at(sets, numbers, s, v, table);
     }
     if k == 8 {
-        return compositions::b8_at(sets, numbers, s, v);
+        return book_compositions::b8_at(sets, numbers, s, v);
     }
-    compositions::b9_at(sets, numbers, s, v, table)
+    book_compositions::b9_at(sets, numbers, s, v, table)
 }
 
 fn rule_if<'a>(
@@ -209,19 +209,19 @@ fn passes_each<'a>(sets: &'a [u64; 576], numbers: &'a [u8; 8768]) -> bool
     if !book::is_proper(sets, numbers) {
         return false;
     }
-    if !rules::one_to_eight(sets, numbers) {
+    if !book_rules::one_to_eight(sets, numbers) {
         return false;
     }
-    if !rules::b1(sets, numbers) {
+    if !book_rules::b1(sets, numbers) {
         return false;
     }
-    if !rules::b2(sets, numbers) {
+    if !book_rules::b2(sets, numbers) {
         return false;
     }
-    if !rules::b3(sets, numbers) {
+    if !book_rules::b3(sets, numbers) {
         return false;
     }
-    if !cycles::b4(sets, numbers) {
+    if !book_cycles::b4(sets, numbers) {
         return false;
     }
     b5_to_b9(sets, numbers)

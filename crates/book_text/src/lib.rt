@@ -1,8 +1,8 @@
 // The text of a Book with tables handed in, as a call.
-ghost use Rattle.handed.specs.Answered.{TextCall};
+ghost use Rattle.names_test.specs.Answered.{TextCall};
 use book::Book;
-use handed::Text;
 use names::Names;
+use names_test::Text;
 
 fn text_in<'a>(
     out: &mut [u8],
@@ -18,10 +18,10 @@ fn text_in<'a>(
     if !book_test::passes(sets, numbers) {
         return Text { answer: 25, len: 0 };
     }
-    if !handed::names_hold(sets, numbers, comps, vers, facs, impls) {
+    if !names_test::names_hold(sets, numbers, comps, vers, facs, impls) {
         return Text { answer: 25, len: 0 };
     }
-    let wrote = written::text(out, sets, numbers, comps, vers, facs, impls);
+    let wrote = write_book::text(out, sets, numbers, comps, vers, facs, impls);
     if !wrote.fits {
         return Text { answer: 22, len: 0 };
     }

@@ -5,17 +5,17 @@ use mathlib.Core.Path.{_∙_, _≡_, ap, ap₂, refl, sym}
 use Prim.Native.Nat.{suc, zero, ℕ}
 use native.Mathlib.Omega.{arith}
 use Rattle.book.specs.Plain.{plainOf}
-use Rattle.outcomes.specs.Calls.{Call, commandOf}
-use Rattle.outcomes.specs.Outcome.{Called, answered}
+use Rattle.command_outcome.specs.Calls.{Call, commandOf}
+use Rattle.command_outcome.specs.Outcome.{Called, answered}
 use Rattle.model.specs.Book.{Book, empty, hasVersion}
 use Rattle.model.specs.Commands.{Command, after}
 use Rattle.model.specs.Limits.{Passes}
 use Rattle.model.specs.PlainBook.{answer, answers, next, reached}
-use Rattle.rules.specs.Test.{passes}
+use Rattle.book_rules.specs.Test.{passes}
 use Rattle.sets.specs.TestLaws.{if-true}
-use Rattle.theorems.specs.Notions.{Run}
-use Rattle.theorems.specs.PartsRight.{PartsRight}
-use Rattle.theorems.specs.Sequence.{from-empty, run-right}
+use Rattle.model_laws.specs.Notions.{Run}
+use Rattle.model_laws.specs.PartsRight.{PartsRight}
+use Rattle.model_laws.specs.Sequence.{from-empty, run-right}
 
 -- a Book as its two arrays
 abbrev pub Arrays : Type 0

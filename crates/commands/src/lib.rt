@@ -1,8 +1,8 @@
 // The ten commands as calls on a Book (document 01, "The ten commands"). Each tests for 25 and then does what its fellow in additions or
 // deletions does. What a call gives and leaves is `Called` (crate outcomes).
 ghost use Rattle.model.specs.Commands.{DEL-SPEC, DEL-MOD, DEL-SYS, DEL-MODVAR, DEL-SYSVAR};
-ghost use Rattle.outcomes.specs.Outcome.{Called};
-ghost use Rattle.outcomes.specs.Calls.{commandOf, addSpec, addMod, addSys, addModvar, addSysvar};
+ghost use Rattle.command_outcome.specs.Outcome.{Called};
+ghost use Rattle.command_outcome.specs.Calls.{commandOf, addSpec, addMod, addSys, addModvar, addSysvar};
 use book::Book;
 
 // What a command gives back: its answer, 0 where it is accepted, and the Book.
@@ -28,10 +28,10 @@ pub fn add_spec<'a>(
             book: b,
         };
     }
-    let g = slices::sets_of(versions, required);
+    let g = command_slices::sets_of(versions, required);
     let mut sets = b.sets;
     let mut numbers = b.numbers;
-    let answer = additions::add_spec_in(&mut sets, &mut numbers, c, provided, g, standard);
+    let answer = command_add::add_spec_in(&mut sets, &mut numbers, c, provided, g, standard);
     let book = Book {
         sets: sets,
         numbers: numbers,
@@ -57,10 +57,10 @@ pub fn add_mod<'a>(
             book: b,
         };
     }
-    let g = slices::numbers_of(versions, implementations);
+    let g = command_slices::numbers_of(versions, implementations);
     let sets = b.sets;
     let mut numbers = b.numbers;
-    let answer = additions::add_mod_in(&sets, &mut numbers, c, g);
+    let answer = command_add::add_mod_in(&sets, &mut numbers, c, g);
     let book = Book {
         sets: sets,
         numbers: numbers,
@@ -83,7 +83,14 @@ pub fn add_modvar(b: Book, c: usize, v: usize, required: u64, implementation: us
     }
     let mut sets = b.sets;
     let mut numbers = b.numbers;
-    let answer = additions::add_modvar_in(&mut sets, &mut numbers, c, v, required, implementation);
+    let answer = command_add::add_modvar_in(
+        &mut sets,
+        &mut numbers,
+        c,
+        v,
+        required,
+        implementation,
+    );
     let book = Book {
         sets: sets,
         numbers: numbers,
@@ -95,7 +102,7 @@ pub fn add_modvar(b: Book, c: usize, v: usize, required: u64, implementation: us
 }
 
 // ADD-SYS, on any Book: usable components; versions, and for each the length of its composition; the members of all compositions one
-// after the other, and for each its version or requests::LEFT_OUT.
+// after the other, and for each its version or command_lists::LEFT_OUT.
 pub fn add_sys<'a>(
     b: Book,
     c: usize,
@@ -113,11 +120,11 @@ pub fn add_sys<'a>(
             book: b,
         };
     }
-    let u = slices::usable_of(usable);
-    let g = slices::compositions_of(versions, lengths, members, chosen);
+    let u = command_slices::usable_of(usable);
+    let g = command_slices::compositions_of(versions, lengths, members, chosen);
     let mut sets = b.sets;
     let mut numbers = b.numbers;
-    let answer = additions::add_sys_in(&mut sets, &mut numbers, c, u, g);
+    let answer = command_add::add_sys_in(&mut sets, &mut numbers, c, u, g);
     let book = Book {
         sets: sets,
         numbers: numbers,
@@ -128,7 +135,7 @@ pub fn add_sys<'a>(
     }
 }
 
-// ADD-SYSVAR, on any Book: members, and for each its version or requests::LEFT_OUT.
+// ADD-SYSVAR, on any Book: members, and for each its version or command_lists::LEFT_OUT.
 pub fn add_sysvar<'a>(
     b: Book,
     c: usize,
@@ -144,10 +151,10 @@ pub fn add_sysvar<'a>(
             book: b,
         };
     }
-    let g = slices::composition_of(members, chosen);
+    let g = command_slices::composition_of(members, chosen);
     let mut sets = b.sets;
     let mut numbers = b.numbers;
-    let answer = additions::add_sysvar_in(&mut sets, &mut numbers, c, v, g);
+    let answer = command_add::add_sysvar_in(&mut sets, &mut numbers, c, v, g);
     let book = Book {
         sets: sets,
         numbers: numbers,
@@ -170,7 +177,7 @@ pub fn del_spec(b: Book, c: usize) -> Outcome
     }
     let sets = b.sets;
     let mut numbers = b.numbers;
-    let answer = deletions::del_spec_in(&sets, &mut numbers, c);
+    let answer = command_delete::del_spec_in(&sets, &mut numbers, c);
     let book = Book {
         sets: sets,
         numbers: numbers,
@@ -193,7 +200,7 @@ pub fn del_mod(b: Book, c: usize) -> Outcome
     }
     let sets = b.sets;
     let mut numbers = b.numbers;
-    let answer = deletions::del_mod_in(&sets, &mut numbers, c);
+    let answer = command_delete::del_mod_in(&sets, &mut numbers, c);
     let book = Book {
         sets: sets,
         numbers: numbers,
@@ -216,7 +223,7 @@ pub fn del_sys(b: Book, c: usize) -> Outcome
     }
     let sets = b.sets;
     let mut numbers = b.numbers;
-    let answer = deletions::del_sys_in(&sets, &mut numbers, c);
+    let answer = command_delete::del_sys_in(&sets, &mut numbers, c);
     let book = Book {
         sets: sets,
         numbers: numbers,
@@ -239,7 +246,7 @@ pub fn del_modvar(b: Book, c: usize, v: usize) -> Outcome
     }
     let sets = b.sets;
     let mut numbers = b.numbers;
-    let answer = deletions::del_modvar_in(&sets, &mut numbers, c, v);
+    let answer = command_delete::del_modvar_in(&sets, &mut numbers, c, v);
     let book = Book {
         sets: sets,
         numbers: numbers,
@@ -262,7 +269,7 @@ pub fn del_sysvar(b: Book, c: usize, v: usize) -> Outcome
     }
     let sets = b.sets;
     let mut numbers = b.numbers;
-    let answer = deletions::del_sysvar_in(&sets, &mut numbers, c, v);
+    let answer = command_delete::del_sysvar_in(&sets, &mut numbers, c, v);
     let book = Book {
         sets: sets,
         numbers: numbers,

@@ -14,7 +14,7 @@ use Rattle.sets.specs.Tests.{_≤?_}
 use Rattle.text.specs.Bytes.{among}
 use Rattle.text.specs.Language.{Name}
 use Rattle.text.specs.Tables.{Table, enter, place}
-use Rattle.text_theorems.specs.Places.{enter-has, enter-longer, place-longer, place-there}
+use Rattle.text_laws.specs.Places.{enter-has, enter-longer, place-longer, place-there}
 
 enter-on : (t : Table) (w : Name) (ws : List Name) → enter t (w ∷ ws) ≡ enter (enter t (w ∷ [])) ws
 unfolding enter

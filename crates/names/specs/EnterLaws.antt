@@ -17,9 +17,9 @@ use Rattle.sets.specs.Tests.{_<?_, _≤?_}
 use Rattle.text.specs.Bytes.{among, same, short}
 use Rattle.text.specs.Language.{Name}
 use Rattle.text.specs.Tables.{Table, enter, place}
-use Rattle.text_theorems.specs.Places.{enter-every, place-among, place-there}
-use Rattle.text_theorems.specs.TextLaws.{every-cons, every-none, same-refl}
-use Rattle.theorems.specs.MapLaws.{no-some}
+use Rattle.text_laws.specs.Places.{enter-every, place-among, place-there}
+use Rattle.text_laws.specs.TextLaws.{every-cons, every-none, same-refl}
+use Rattle.model_laws.specs.MapLaws.{no-some}
 use Rattle.names.specs.declared.Found.{Found}
 use Rattle.names.specs.declared.Found.the-variants.{At, Nothing}
 

@@ -12,16 +12,16 @@ use Rattle.model.specs.Book.{hasVersion}
 use Rattle.model.specs.PartsList.{parts}
 use Rattle.model.specs.Queries.{asked}
 use Rattle.model.specs.Questions.{firstNo}
-use Rattle.part_rows.specs.Listed.{Found, Listed, partsAnswer, partsAsked}
-use Rattle.rules.specs.Test.{passes}
-use Rattle.rules.specs.TestLaws.{passes-plain}
+use Rattle.parts_rows.specs.Listed.{Found, Listed, partsAnswer, partsAsked}
+use Rattle.book_rules.specs.Test.{passes}
+use Rattle.book_rules.specs.TestLaws.{passes-plain}
 use Rattle.sets.specs.TestLaws.{<?-in, <?-no, <?-out, and-in, bool?, clash, fails, if-false, if-true, ≤?-in, ≤?-out}
 use Rattle.sets.specs.Tests.{_<?_, _≤?_}
-use Rattle.theorems.specs.Good.{passes→good, version-specified}
-use Rattle.theorems.specs.Notions.{howManyPairs}
-use Rattle.theorems.specs.Parts.{pair-limits}
-use Rattle.theorems.specs.PartsRight.{PartsRight}
-use Rattle.theorems.specs.Sequence.{passes-parts}
+use Rattle.model_laws.specs.Good.{passes→good, version-specified}
+use Rattle.model_laws.specs.Notions.{howManyPairs}
+use Rattle.model_laws.specs.Parts.{pair-limits}
+use Rattle.model_laws.specs.PartsRight.{PartsRight}
+use Rattle.model_laws.specs.Sequence.{passes-parts}
 
 -- The list of a stored version is never refused where the slice has as many places as the book has versions. What is then written is the
 -- plain book's list, of which demand 3's words hold: "It holds exactly the versions that the stored one is made from, each once and after

@@ -6,8 +6,8 @@ ghost use lib.ListN.{take, length};
 ghost use Rattle.model.specs.PartsList.{howManySystems};
 ghost use Rattle.seqs.specs.Filled.{filled};
 ghost use Rattle.book.specs.Plain.{plainOf};
-ghost use Rattle.rules.specs.Test as test;
-ghost use Rattle.part_rows.specs.Listed.{Listed, Refused};
+ghost use Rattle.book_rules.specs.Test as test;
+ghost use Rattle.parts_rows.specs.Listed.{Listed, Refused};
 use book::Book;
 
 // What the call gives back: its answer, 0 where the list is in the slice, how many rows it has, and a depth.
@@ -75,7 +75,7 @@ pub fn parts_in<'a>(
     if !book::has_version(sets, numbers, c, v) {
         return refused(10);
     }
-    let found = part_rows::rows_of(sets, numbers, c, v);
+    let found = parts_rows::rows_of(sets, numbers, c, v);
     if out.len() < found.count {
         return refused(22);
     }

@@ -2,13 +2,13 @@
 // choices does.
 ghost use lib.ListN.{length};
 ghost use Rattle.model.specs.Queries.{SUPPLIES, NEEDS, CHOICE, STANDARD, UNDEFINED, UNUSED, WHEREUSED, theVersion};
-ghost use Rattle.replies.specs.Replied.{Replied, repliedTo, numbersIn, facilitiesIn, componentsIn};
-ghost use Rattle.replies.specs.Listed.{Listed, fitted};
+ghost use Rattle.query_replies.specs.Replied.{Replied, repliedTo, numbersIn, facilitiesIn, componentsIn};
+ghost use Rattle.query_replies.specs.Listed.{Listed, fitted};
 use book::Book;
-use replies::Components;
-use replies::Facilities;
-use replies::Pairs;
-use replies::Version;
+use query_replies::Components;
+use query_replies::Facilities;
+use query_replies::Pairs;
+use query_replies::Version;
 
 // SUPPLIES, on any Book.
 pub fn supplies(b: Book, c: usize) -> Facilities
@@ -17,7 +17,7 @@ pub fn supplies(b: Book, c: usize) -> Facilities
     if !book_test::passes(&b.sets, &b.numbers) {
         return Facilities { answer: 25, set: 0 };
     }
-    replies::supplies_in(&b.sets, &b.numbers, c)
+    query_replies::supplies_in(&b.sets, &b.numbers, c)
 }
 
 // NEEDS, on any Book.
@@ -27,7 +27,7 @@ pub fn needs(b: Book, c: usize, v: usize) -> Facilities
     if !book_test::passes(&b.sets, &b.numbers) {
         return Facilities { answer: 25, set: 0 };
     }
-    replies::needs_in(&b.sets, &b.numbers, c, v)
+    query_replies::needs_in(&b.sets, &b.numbers, c, v)
 }
 
 // STANDARD, on any Book.
@@ -40,7 +40,7 @@ pub fn standard(b: Book, c: usize) -> Version
             version: 0,
         };
     }
-    replies::standard_in(&b.sets, &b.numbers, c)
+    query_replies::standard_in(&b.sets, &b.numbers, c)
 }
 
 // UNDEFINED, on any Book.
@@ -50,7 +50,7 @@ pub fn undefined(b: Book) -> Components
     if !book_test::passes(&b.sets, &b.numbers) {
         return Components { answer: 25, set: 0 };
     }
-    set_replies::undefined_in(&b.sets, &b.numbers)
+    query_sets::undefined_in(&b.sets, &b.numbers)
 }
 
 // UNUSED, on any Book.
@@ -60,7 +60,7 @@ pub fn unused(b: Book) -> Components
     if !book_test::passes(&b.sets, &b.numbers) {
         return Components { answer: 25, set: 0 };
     }
-    set_replies::unused_in(&b.sets, &b.numbers)
+    query_sets::unused_in(&b.sets, &b.numbers)
 }
 
 // WHEREUSED, on any Book.
@@ -70,7 +70,7 @@ pub fn whereused(b: Book, c: usize) -> Components
     if !book_test::passes(&b.sets, &b.numbers) {
         return Components { answer: 25, set: 0 };
     }
-    set_replies::whereused_in(&b.sets, &b.numbers, c)
+    query_sets::whereused_in(&b.sets, &b.numbers, c)
 }
 
 // CHOICE, on any Book, of a set of facilities. A row is component × 64 + version.
@@ -84,5 +84,5 @@ pub fn choice(b: Book, wanted: u64, out: &mut [u16]) -> Pairs
             rows: 0,
         };
     }
-    choices::choice_in(&b.sets, &b.numbers, wanted, out)
+    query_choice::choice_in(&b.sets, &b.numbers, wanted, out)
 }

@@ -11,26 +11,26 @@ use lib.IntN.{negsuc, pos}
 use lib.ListN.{getD-replicate, length, length-replicate, replicate, take}
 use Rattle.book.specs.Plain.{plainOf}
 use Rattle.book.specs.Readers.{fresh-plain}
-use Rattle.language.specs.Entering.{Kept}
-use Rattle.listing.specs.Room.{writtenIn}
-use Rattle.listing.specs.declared.Room.{Room}
+use Rattle.read_tokens.specs.Entering.{Kept}
+use Rattle.write_bytes.specs.Room.{writtenIn}
+use Rattle.write_bytes.specs.declared.Room.{Room}
 use Rattle.model.specs.Book.{Book, empty, specified}
 use Rattle.model.specs.Maps.{isSome}
 use Rattle.model.specs.Lists.{every, nonEmpty}
 use Rattle.names.specs.StoredLaws.{no-names, zeros-empty}
-use Rattle.rules.specs.Test as test
-use Rattle.rules.specs.RuleLaws.{unspecified}
-use Rattle.rules.specs.TestLaws.{none-passes}
+use Rattle.book_rules.specs.Test as test
+use Rattle.book_rules.specs.RuleLaws.{unspecified}
+use Rattle.book_rules.specs.TestLaws.{none-passes}
 use Rattle.sets.specs.TestLaws.{and-false, all-in, and-true, bool?, fails, if-false, if-true, ≤?-in, ≤?-out}
 use Rattle.sets.specs.Tests.{_≤?_, ~_}
 use Rattle.seqs.specs.Filled.{filled}
 use Rattle.seqs.specs.FilledLaws.{filled-length}
-use Rattle.states.specs.State.{Ready, stateOf}
+use Rattle.session_state.specs.State.{Ready, stateOf}
 use Rattle.text.specs.Bytes.{Text}
 use Rattle.text.specs.LentSlice.{fitsIn, hostFits, hostResult, hostSlice, listingIn, mostBytes, sliceAfter, stateAfter}
 use Rattle.text.specs.Session.{State, fresh, session}
 use Rattle.text.specs.Tables.{Tables}
-use Rattle.running.specs.Ran.{Ran}
+use Rattle.session_run.specs.Ran.{Ran}
 use Rattle.svcd.specs.Reached.{Leaves, SessionCall, answerOf, lengthOf, stateIn}
 
 -- ---- the listing

@@ -8,7 +8,7 @@ use Rattle.sets.specs.Tests.{if_then_else_}
 use Rattle.text.specs.Bytes.{Text}
 use Rattle.text.specs.LentSlice.{fitsIn, sliceAfter, stateAfter}
 use Rattle.text.specs.Session.{State, session}
-use Rattle.states.specs.State.{Ready, stateOf}
+use Rattle.session_state.specs.State.{Ready, stateOf}
 use Rattle.svcd.specs.declared.SessionEnd.{SessionEnd}
 
 -- "A listing longer than the slice gives 22 and a slice of zeros."

@@ -1,6 +1,6 @@
 // The session over a text and a lent slice (document 01, "Text and session"), and the function for a host in C.
 ghost use mathlib.Core.Path.{_≡_};
-ghost use Rattle.states.specs.State.{Ready, stateOf};
+ghost use Rattle.session_state.specs.State.{Ready, stateOf};
 ghost use Rattle.text.specs.Session.{fresh};
 ghost use Rattle.svcd.specs.Reached.{Leaves, SessionCall};
 ghost use Rattle.text.specs.LentSlice.{hostResult, hostSlice};
@@ -51,7 +51,7 @@ fn list(
 {
     clear_state(sets, numbers, comps, vers, facs, impls);
     let n = out.len();
-    let room = running::run(sets, numbers, comps, vers, facs, impls, text, out);
+    let room = session_run::run(sets, numbers, comps, vers, facs, impls, text, out);
     if !room.fits {
         clear_state(sets, numbers, comps, vers, facs, impls);
         seqs::clear(out);

@@ -19,8 +19,8 @@ use Rattle.text.specs.Bytes.{Text, alnum, among, bytes, implByte, keywords, nam
 use Rattle.text.specs.Bytes.{validName}
 use Rattle.text.specs.Tables.{Table, nameAt, place}
 use Rattle.text.specs.Tokens.{past}
-use Rattle.text_theorems.specs.Places.{place-among, place-there}
-use Rattle.text_theorems.specs.TextLaws.{every-among}
+use Rattle.text_laws.specs.Places.{place-among, place-there}
+use Rattle.text_laws.specs.TextLaws.{every-among}
 use Rattle.names.specs.declared.Found.{Found}
 use Rattle.names.specs.declared.Found.the-variants.{At, Nothing}
 use Rattle.names.specs.Stored.{answered, nameIn, tableOf}

@@ -1,4 +1,4 @@
-use Rattle.rules.specs.TestLaws.{B5-is}
+use Rattle.book_rules.specs.TestLaws.{B5-is}
 use mathlib.Core.Path.{_∙_, refl}
 use Rattle.book_test.proofs.b5.Statement.{statement}
 use Rattle.book_test.proofs.b5.Tie as tie

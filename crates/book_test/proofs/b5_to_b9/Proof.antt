@@ -1,6 +1,6 @@
 use native.Mathlib.Omega.{arith}
-use Rattle.rules.specs.TestLaws.{sound, is-yes, no-5, no-6, no-7, no-8, last-9}
-use Rattle.rules.specs.WalkLaws.{kept-start}
+use Rattle.book_rules.specs.TestLaws.{sound, is-yes, no-5, no-6, no-7, no-8, last-9}
+use Rattle.book_rules.specs.WalkLaws.{kept-start}
 use lib.ListN.{length-replicate, getD-replicate}
 use Prim.Native.Nat.{ℕ}
 use Rattle.book_test.proofs.b5_to_b9.Statement.{statement}

@@ -1,4 +1,4 @@
-use Rattle.rules.specs.TestLaws.{B6-is}
+use Rattle.book_rules.specs.TestLaws.{B6-is}
 use mathlib.Core.Path.{_∙_}
 use borrow.Author.Needs.{needs}
 use Rattle.book_test.proofs.b6.Statement.{statement}

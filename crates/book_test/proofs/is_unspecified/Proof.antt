@@ -1,4 +1,4 @@
-use Rattle.rules.specs.RuleLaws.{unspecified-is}
+use Rattle.book_rules.specs.RuleLaws.{unspecified-is}
 use borrow.Author.Needs.{needs}
 use Rattle.book_test.proofs.is_unspecified.Statement.{statement}
 use Rattle.book_test.proofs.is_unspecified.Tie as tie

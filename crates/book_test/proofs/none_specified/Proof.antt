@@ -5,7 +5,7 @@ use mathlib.Core.Path.{_≡_}
 use mathlib.Core.Bool.{true}
 use Rattle.sets.specs.Tests.{all}
 use Rattle.sets.specs.LoopLaws.{all-start, all-turn, all-stop, all-end}
-use Rattle.rules.specs.RuleLaws.{unspecified}
+use Rattle.book_rules.specs.RuleLaws.{unspecified}
 use Rattle.book.specs.Plain.{specsOf}
 use Rattle.book_test.proofs.none_specified.Statement.{statement}
 use Rattle.book_test.proofs.none_specified.Tie as tie

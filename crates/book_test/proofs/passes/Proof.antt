@@ -1,4 +1,4 @@
-use Rattle.rules.specs.TestLaws.{none-passes}
+use Rattle.book_rules.specs.TestLaws.{none-passes}
 use mathlib.Core.Path.{_∙_, sym}
 use borrow.Author.Needs.{needs}
 use Rattle.book_test.proofs.passes.Statement.{statement}

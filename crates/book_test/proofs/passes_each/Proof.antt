@@ -1,4 +1,4 @@
-use Rattle.rules.specs.TestLaws.{fails-proper, fails-counts, fails-1, fails-2, fails-3, fails-4, passes-last, is-yes}
+use Rattle.book_rules.specs.TestLaws.{fails-proper, fails-counts, fails-1, fails-2, fails-3, fails-4, passes-last, is-yes}
 use borrow.Author.Needs.{needs}
 use Rattle.book_test.proofs.passes_each.Statement.{statement}
 use Rattle.book_test.proofs.passes_each.Tie as tie

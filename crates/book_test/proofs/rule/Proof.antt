@@ -1,9 +1,9 @@
 use borrow.Author.Needs.{needs}
 use native.Mathlib.Omega.{arith}
 use Prim.Native.Nat.{_≤_, _-_}
-use Rattle.rules.specs.CompositionLaws.{ofSystem, ifComposed, ruleAt}
+use Rattle.book_rules.specs.CompositionLaws.{ofSystem, ifComposed, ruleAt}
 use Rattle.model.specs.Rules.{eachComposition}
-use Rattle.rules.specs.Table.{Kept}
+use Rattle.book_rules.specs.Table.{Kept}
 use Rattle.sets.specs.Tests.{all}
 use Rattle.sets.specs.LoopLaws.{all-start, all-turn, all-stop, all-end}
 use mathlib.Core.Path.{_≡_, refl}

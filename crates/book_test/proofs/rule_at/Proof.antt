@@ -1,4 +1,4 @@
-use Rattle.rules.specs.TestLaws.{rule-5, rule-6, rule-7, rule-8, rule-9}
+use Rattle.book_rules.specs.TestLaws.{rule-5, rule-6, rule-7, rule-8, rule-9}
 use borrow.Author.Needs.{needs}
 use Rattle.book_test.proofs.rule_at.Statement.{statement}
 use Rattle.book_test.proofs.rule_at.Tie as tie

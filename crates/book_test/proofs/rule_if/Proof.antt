@@ -1,4 +1,4 @@
-use Rattle.rules.specs.TestLaws.{composed-test, composed-skip}
+use Rattle.book_rules.specs.TestLaws.{composed-test, composed-skip}
 use borrow.Author.Needs.{needs}
 use Rattle.book_test.proofs.rule_if.Statement.{statement}
 use Rattle.book_test.proofs.rule_if.Tie as tie

@@ -1,10 +1,10 @@
 use borrow.Author.Needs.{needs}
 use native.Mathlib.Omega.{arith}
 use Prim.Native.Nat.{_≤_, _-_}
-use Rattle.rules.specs.TestLaws.{no-system-passes, is-yes}
-use Rattle.rules.specs.CompositionLaws.{ifComposed, ofSystem, ruleAt}
+use Rattle.book_rules.specs.TestLaws.{no-system-passes, is-yes}
+use Rattle.book_rules.specs.CompositionLaws.{ifComposed, ofSystem, ruleAt}
 use Rattle.book.specs.Plain.{specsOf, systemsOf}
-use Rattle.rules.specs.Table.{Kept}
+use Rattle.book_rules.specs.Table.{Kept}
 use Rattle.sets.specs.Tests.{all}
 use Rattle.sets.specs.LoopLaws.{all-start, all-turn, all-stop, all-end}
 use mathlib.Core.Path.{_≡_}

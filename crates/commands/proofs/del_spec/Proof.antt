@@ -1,5 +1,5 @@
-use Rattle.outcomes.specs.OutcomeLaws.{refuse-25}
-use Rattle.rules.specs.TestLaws.{is-yes}
+use Rattle.command_outcome.specs.OutcomeLaws.{refuse-25}
+use Rattle.book_rules.specs.TestLaws.{is-yes}
 use borrow.Author.Tests.{not-true}
 use mathlib.Core.Path.{_∙_, sym}
 use borrow.Author.Needs.{needs}

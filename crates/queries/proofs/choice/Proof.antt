@@ -1,5 +1,5 @@
-use Rattle.replies.specs.ChoiceLaws.{choice-25}
-use Rattle.rules.specs.TestLaws.{is-yes}
+use Rattle.query_replies.specs.ChoiceLaws.{choice-25}
+use Rattle.book_rules.specs.TestLaws.{is-yes}
 use borrow.Author.Needs.{needs}
 use Rattle.queries.proofs.choice.Statement.{statement}
 use Rattle.queries.proofs.choice.Tie as tie

@@ -1,5 +1,5 @@
-use Rattle.replies.specs.RepliedLaws.{refuse-25}
-use Rattle.rules.specs.TestLaws.{is-yes}
+use Rattle.query_replies.specs.RepliedLaws.{refuse-25}
+use Rattle.book_rules.specs.TestLaws.{is-yes}
 use borrow.Author.Needs.{needs}
 use Rattle.queries.proofs.needs.Statement.{statement}
 use Rattle.queries.proofs.needs.Tie as tie

@@ -1,9 +1,0 @@
-use borrow.Author.Needs.{needs}
-use Rattle.handed.specs.NamedLaws.{implementation-is, no-implementation}
-use Rattle.handed.proofs.implementation_named.Statement.{statement}
-use Rattle.handed.proofs.implementation_named.Tie as tie
-
-pub implementation-named-spec : {M : Type 1} → statement M
-implementation-named-spec = tie.close
-    (tie.spec (λ c κs. search needs) (λ c. search (needs, no-implementation)) (λ c κs. search needs) (λ c κs. search needs)
-    (λ c κs. search needs) (λ c κs. search needs) (λ c. search (needs, implementation-is)))

@@ -1,9 +1,0 @@
-use borrow.Author.Needs.{needs}
-use Rattle.handed.specs.NamedLaws.{named-is, named-skip}
-use Rattle.handed.proofs.named_if.Statement.{statement}
-use Rattle.handed.proofs.named_if.Tie as tie
-
-pub named-if-spec : {M : Type 1} → statement M
-named-if-spec = tie.close
-    (tie.spec (λ c κs. search needs) (λ c. search (needs, named-skip)) (λ c κs. search needs) (λ c κs. search needs)
-    (λ c. search (needs, named-is)))

@@ -1,6 +1,0 @@
-use Rattle.requests.specs.ViewLaws.{no-members-is}
-use Rattle.requests.proofs.no_members.Statement.{statement}
-use Rattle.requests.proofs.no_members.Tie as tie
-
-pub no-members-spec : {M : Type 1} → statement M
-no-members-spec = tie.close (tie.spec (λ c. no-members-is))

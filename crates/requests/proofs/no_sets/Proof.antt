@@ -1,6 +1,0 @@
-use Rattle.requests.specs.ViewLaws.{no-sets-is}
-use Rattle.requests.proofs.no_sets.Statement.{statement}
-use Rattle.requests.proofs.no_sets.Tie as tie
-
-pub no-sets-spec : {M : Type 1} → statement M
-no-sets-spec = tie.close (tie.spec (λ c. no-sets-is))

@@ -2,10 +2,9 @@
 // links them.
 ghost use mathlib.Core.Path.{_≡_};
 ghost use Rattle.book_rules.specs.Test as test;
-ghost use Rattle.command_outcome.specs.Calls.{commandOf};
+ghost use Rattle.command_outcome.specs.Calls.{callOf, commandOf};
 ghost use Rattle.command_outcome.specs.Outcome.{Called};
-ghost use Rattle.demand_3.specs.Numbered.{callOf};
-ghost use Rattle.parts_rows.specs.Listed.{Listed};
+ghost use Rattle.parts.specs.Listed.{Listed};
 use book::Book;
 
 #[no_mangle]
@@ -15,7 +14,7 @@ pub extern "C" fn version_book_test<'a>(sets: &'a [u64; 576], numbers: &'a [u8; 
     book_test::passes(sets, numbers)
 }
 
-// The call of a number, as in demand_3::call. The Book that it hands back is written into the last two arrays.
+// The call of a number, as in demand_3::call; ADD-MOD's implementations are lengths. The Book that it hands back is written into the last two arrays.
 #[no_mangle]
 pub extern "C" fn version_book_call<'a>(
     sets: &'a [u64; 576],
@@ -35,7 +34,7 @@ pub extern "C" fn version_book_call<'a>(
     next_numbers: &mut [u8; 8768],
 ) -> u8
     ensures { λ r. ⌜ Called (now (sets .entry)) (now (numbers .entry)) (commandOf (callOf kind c v i set (now (usable .entry)) (now (versions .entry))
-        (now (lengths .entry)) (now (members .entry)) (now (chosen .entry)) (now (required .entry)))) r (now («next_sets» .exit)) (now («next_numbers» .exit)) ⌝ }
+        (now (lengths .entry)) (now (lengths .entry)) (now (members .entry)) (now (chosen .entry)) (now (required .entry)))) r (now («next_sets» .exit)) (now («next_numbers» .exit)) ⌝ }
 {
     let lent_sets = *sets;
     let lent_numbers = *numbers;
@@ -52,6 +51,7 @@ pub extern "C" fn version_book_call<'a>(
         set,
         usable,
         versions,
+        lengths,
         lengths,
         members,
         chosen,

@@ -30,7 +30,6 @@ use Rattle.sets.specs.Tests.{_==_}
 use Rattle.model_laws.specs.Accepted.{not-defined}
 use Rattle.model_laws.specs.MapLaws.{isSome-in, option?}
 use Rattle.model_laws.specs.Notions.{distinct}
-use types.Kit.{done}
 
 -- ---- the kind of c is set to k, with what stands at its places; its versions and its specification stay
 

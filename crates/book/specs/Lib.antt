@@ -9,6 +9,4 @@ pub mod Writers
 pub mod Proper
 pub mod PutLaws
 pub mod DefineLaws
-pub mod SystemLaws
-pub mod SpecLaws
 pub mod TestLaws

@@ -1,4 +1,5 @@
 -- What a Book holds: `plainOf` gives the plain book that its two arrays mean, whatever numbers stand in them. What is not there (a slot
+-- that is free, the fields of a component that is not specified, a composition of what is no system) is masked.
 use mathlib.Core.Bool.{Bool}
 use mathlib.Core.List.{List}
 use mathlib.Core.Option.{Option, none}
@@ -11,8 +12,6 @@ use Rattle.model.specs.Maps.{Map, onlyIf, optionMap}
 use Rattle.sets.specs.Sets.{Set, bit}
 use Rattle.sets.specs.Tests.{_&_, _<?_, _==_, _⇒_, _≤?_, all, if_then_else_, ~_}
 use Rattle.sets.specs.Sets as sets
-
--- that is free, the fields of a component that is not specified, a composition of what is no system) is masked.
 
 -- the lowest slot that has the version v, where vs j is the version in slot j; a number of 64 or more is no version
 unfoldable pub slot : (ℕ → ℕ) → ℕ → Option ℕ

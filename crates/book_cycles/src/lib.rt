@@ -7,7 +7,7 @@ ghost use Rattle.sets.specs.Sets.{bit};
 ghost use Rattle.model.specs.Rules.{B4};
 ghost use Rattle.book.specs.Plain.{systemsOf};
 ghost use Rattle.book_rules.specs.RuleLaws.{ifSystem};
-ghost use Rattle.book_rules.specs.Closure.{Rows, joinOf, selfFree};
+ghost use Rattle.book_cycles.specs.Closure.{Rows, joinOf, selfFree};
 
 // What each component may use.
 fn usable_rows<'a>(sets: &'a [u64; 576], numbers: &'a [u8; 8768]) -> [u64; 32]

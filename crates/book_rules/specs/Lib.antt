@@ -1,7 +1,6 @@
 pub mod Table
 pub mod WalkLaws
 pub mod RuleLaws
-pub mod Closure
 pub mod CompositionLaws
 pub mod Test
 pub mod TestLaws

@@ -1,5 +1,5 @@
-// The rules B1 to B9 of a Book, the needs of its pairs, and the test for 25. Each function says of the plain book that the two arrays mean
-// what `model` defines.
+// The rules B1 to B3 of a Book, and what the crates above ask of its components. Each function says of the plain book that the two arrays
+// mean what `model` defines. The table of needs and the test for 25 are defined here too (specs/Table.antt, specs/Test.antt).
 ghost use mathlib.Core.Path.{_≡_};
 ghost use Prim.Native.Nat.{_<_};
 ghost use Rattle.sets.specs.Tests.{all};

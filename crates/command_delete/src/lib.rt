@@ -7,7 +7,7 @@ ghost use Rattle.book_rules.specs.Test as test;
 ghost use Rattle.model.specs.Commands.{DEL-SPEC, DEL-MOD, DEL-SYS, DEL-MODVAR, DEL-SYSVAR};
 ghost use Rattle.model.specs.Questions.{usableInNone, heldByNone};
 ghost use Rattle.command_outcome.specs.Outcome.{Called};
-ghost use Rattle.command_outcome.specs.Asked.{notUsableIn, notHeldAt, notHeldIn};
+ghost use Rattle.command_delete.specs.Asked.{notUsableIn, notHeldAt, notHeldIn};
 
 // ---- questions
 

@@ -25,7 +25,7 @@ use Rattle.sets.specs.TestLaws.{<?-out, ==-not, ==-same, all-cong, all-in, all-
 use Rattle.sets.specs.TestLaws.{fails, if-false, if-true, iff→≡, imp-in, imp-out, not-in, not-out, or-l, or-r}
 use Rattle.sets.specs.Tests.{_&_, _<?_, _==_, _or_, _⇔_, _≤?_, all, any, count, if_then_else_, ~_}
 use Rattle.model_laws.specs.Accepted.{below-elem, length-firsts}
-use Rattle.model_laws.specs.ListLaws.{beside-elem, beside-second, count-one-more, every-elem}
+use Rattle.model_laws.specs.ListLaws.{beside-elem, beside-second, count-one-more, every-elem, every-listed}
 use Rattle.model_laws.specs.MapLaws.{if-there-cong, if-there-in, if-there-out, isSome-in}
 
 -- two lists of questions that part only where an earlier answer is no
@@ -57,11 +57,6 @@ entries-below n good full single what (x ∷ xs) =
     ap (λ (z : Bool). (x .0 <? n & good (x .1)) & z) (entries-below n good full single what xs) ∙ and-four _ _ _ _
 
 -- ---- numbers of a list
-
-pub every-listed : (t : ℕ → Bool) (xs : List ℕ) → ((k : ℕ) → elem k xs ≡ true → t k ≡ true) → every t xs ≡ true
-unfolding every elem
-every-listed t [] h = refl
-every-listed t (x ∷ xs) h = and-in _ _ (h x (or-l _ _ (==-same x))) (every-listed t xs (λ k e. h k (or-r _ _ e)))
 
 count-once : (n : ℕ) (xs : List ℕ) → eachBelow n xs ≡ true → once xs ≡ true → count n (λ i. elem i xs) ≡ length xs
 unfolding elem once eachBelow every

@@ -17,7 +17,7 @@ use Rattle.model.specs.Commands.{Members}
 use Rattle.model.specs.Lists.{beside, every, firsts, nonEmpty, once, seconds}
 use Rattle.model.specs.Maps.{Map, isSome, onlyIf, optionMap}
 use Rattle.model.specs.Questions.{memberBelow}
-use Rattle.command_lists.specs.Gathered.{Gathered, listed, nothing, step}
+use Rattle.command_lists.specs.Gathered.{Gathered, listed, nothing}
 use Rattle.command_lists.specs.GatheredLaws.{entryBelow, gathered-given, gathered-large, gathered-twice}
 use Rattle.command_lists.specs.Said.{always, compositionsStep, isVersionOrNone, itself, membersOf, membersOnce}
 use Rattle.command_lists.specs.ViewLaws.{beside-large, entry-new, entry-old, held-nothing, number-large, some-only}

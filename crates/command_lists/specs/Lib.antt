@@ -4,6 +4,5 @@ pub mod Views
 pub mod GatheredLaws
 pub mod ViewLaws
 pub mod CompositionLaws
-pub mod SliceLaws
 pub mod Answers
 pub mod AnswerLaws

@@ -11,7 +11,7 @@ use lib.Seq.{getD-set-other, getD-set-same}
 use Rattle.book.specs.Plain.{byte, facilitySet}
 use Rattle.book.specs.SlotLaws.{only-no, only-yes}
 use Rattle.model.specs.Book.{components, facilities, versions}
-use Rattle.model.specs.Lists.{beside, setOf}
+use Rattle.model.specs.Lists.{setOf}
 use Rattle.model.specs.Maps.{Map, elseTry, if-there, isSome, onlyIf}
 use Rattle.model.specs.Questions.{eachBelow}
 use Rattle.command_lists.specs.Gathered.{Gathered, listed, nothing, step}

@@ -2,7 +2,7 @@
 use mathlib.Core.Bool.{false, true}
 use mathlib.Core.List.{List}
 use mathlib.Core.Logic.{_≢_}
-use mathlib.Core.Path.{_∙_, _≡_, ap, refl, subst, sym}
+use mathlib.Core.Path.{_∙_, _≡_, ap, ap₂, refl, subst, sym}
 use Prim.Native.Nat.{suc, zero, ℕ}
 use native.Mathlib.Omega.{arith}
 use Rattle.book.specs.Changes.{Holds}
@@ -51,3 +51,24 @@ module _ (s n : List ℕ) (k : Command) (good : passes s n ≡ true) where
 pub refuse-25 : (s n : List ℕ) (k : Command) → passes s n ≡ false → Called s n k 25 s n
 unfolding answered
 refuse-25 s n k e = record { answer-is = sym (if-false _ _ _ e); refused = λ _. (refl, refl); accepted = λ z. absurd (omega (arith, z)) }
+
+-- ---- a call in a sequence
+
+module _ (s n : List ℕ) (k : Command) (a : ℕ) (s′ n′ : List ℕ) (good : passes s n ≡ true) (c : Called s n k a s′ n′) where
+  answer-is : a ≡ answer (plainOf s n) k
+  unfolding answered
+  answer-is = c .answer-is ∙ if-true _ _ _ good
+
+  next-kept : (m : ℕ) → answer (plainOf s n) k ≡ suc m → next (plainOf s n) k ≡ plainOf s n
+  unfolding next
+  next-kept m e = ap (λ (x : ℕ). elim x [ zero ↦ after (plainOf s n) k | suc y ↦ plainOf s n ]) e
+
+  -- a call on a Book that passes answers as the plain book does, and leaves a Book that holds the plain book's next and passes
+  pub step-right : (a ≡ answer (plainOf s n) k) × (plainOf s′ n′ ≡ next (plainOf s n) k) × (passes s′ n′ ≡ true)
+  step-right = by a refl
+    where
+      by : (x : ℕ) → a ≡ x → (a ≡ answer (plainOf s n) k) × (plainOf s′ n′ ≡ next (plainOf s n) k) × (passes s′ n′ ≡ true)
+      by zero e = (answer-is, c .accepted e .0, c .accepted e .1)
+      by (suc m) e =
+          let q = c .refused (λ z. omega (arith, z, e)) in
+          (answer-is, ap₂ plainOf (q .0) (q .1) ∙ sym (next-kept m (sym answer-is ∙ e)), ap₂ passes (q .0) (q .1) ∙ good)

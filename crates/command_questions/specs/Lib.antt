@@ -1,3 +1,2 @@
 pub mod Asked
-pub mod FirstNoLaws
 pub mod AskedLaws

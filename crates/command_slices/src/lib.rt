@@ -1,4 +1,4 @@
-// The lists of a call gathered from its slices (crate requests, specs/Said.antt, says what slices say).
+// The lists of a call gathered from its slices (command_lists/specs/Said.antt says what slices say).
 ghost use mathlib.Core.Path.{_≡_};
 ghost use mathlib.Core.List.{[]};
 ghost use Prim.Native.Nat.{_≤_, _-_};

@@ -1,5 +1,5 @@
-// The ten commands as calls on a Book (document 01, "The ten commands"). Each tests for 25 and then does what its fellow in additions or
-// deletions does. What a call gives and leaves is `Called` (crate outcomes).
+// The ten commands as calls on a Book (document 01, "The ten commands"). Each tests for 25 and then does what the function of its
+// name with `_in` does (command_add, command_delete). What a call gives and leaves is `Called` (command_outcome).
 ghost use Rattle.model.specs.Commands.{DEL-SPEC, DEL-MOD, DEL-SYS, DEL-MODVAR, DEL-SYSVAR};
 ghost use Rattle.command_outcome.specs.Outcome.{Called};
 ghost use Rattle.command_outcome.specs.Calls.{commandOf, addSpec, addMod, addSys, addModvar, addSysvar};

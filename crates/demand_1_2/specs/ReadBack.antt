@@ -1,5 +1,5 @@
--- Demand 2: "A book written as text and read back is the same book by names; equal texts, equal books." Of the calls `text_of` (`TextCall`)
--- and `session` (`SessionCall`).
+-- Demand 2: "A book written as text and read into an empty session is the same book by names; two books have equal texts exactly when they
+-- are the same by names." Of the calls `text_of` (`TextCall`) and `session` (`SessionCall`).
 use mathlib.Core.List.{List}
 use mathlib.Core.Logic.{_↔_}
 use mathlib.Core.Path.{_∙_, _≡_, ap, ap₂, subst, sym}

@@ -7,13 +7,13 @@ use Prim.Native.Nat.{_<_, _≤_, ℕ}
 use lib.ListN.{length}
 use Rattle.book.specs.Plain.{plainOf}
 use Rattle.command_outcome.specs.Calls.{Call, commandOf}
-use Rattle.commands.specs.Demand.{Arrays, Step, every-sequence, run-passes}
+use Rattle.demand_3.specs.EverySequence.{Arrays, Step, every-sequence, run-passes}
 use Rattle.model.specs.Book.{empty, hasVersion}
 use Rattle.model.specs.Limits.{Passes}
 use Rattle.model.specs.PartsList.{parts}
 use Rattle.model.specs.PlainBook.{answers, reached}
-use Rattle.parts.specs.Demand.{RightlyListed, gives-22, parts-call-right}
-use Rattle.parts_rows.specs.Listed.{Listed}
+use Rattle.demand_3.specs.PartsCall.{RightlyListed, gives-22, parts-call-right}
+use Rattle.parts.specs.Listed.{Listed}
 use Rattle.book_rules.specs.Test.{passes}
 use Rattle.model_laws.specs.Notions.{Run, howManyPairs}
 

@@ -1,3 +1,4 @@
-pub mod Numbered
 pub mod NumberedLaws
+pub mod PartsCall
+pub mod EverySequence
 pub mod Demand

@@ -3,22 +3,21 @@ use mathlib.Core.List.{List, []}
 use mathlib.Core.Logic.{_≢_}
 use mathlib.Core.Path.{_∙_, _≡_, refl, subst, sym}
 use Prim.Native.Nat.{ℕ}
-use Rattle.command_outcome.specs.Calls.{Call, addMod, addModvar, addSpec, addSys, addSysvar, commandOf, delMod, delModvar, delSpec, delSys, delSysvar}
+use Rattle.command_outcome.specs.Calls.{Call, addMod, addModvar, addSpec, addSys, addSysvar, callOf, commandOf, delMod, delModvar, delSpec, delSys, delSysvar}
 use Rattle.command_outcome.specs.Outcome.{Called}
-use Rattle.demand_3.specs.Numbered.{callOf}
 use Rattle.sets.specs.TestLaws.{==-in, ==-not, if-false, if-true}
 use Rattle.sets.specs.Tests.{_==_, if_then_else_}
 
-module _ (kind c v i f : ℕ) (us vs ls ms xs qs : List ℕ) where
+module _ (kind c v i f : ℕ) (us vs is ls ms xs qs : List ℕ) where
   abbrev this : Call
-  this = callOf kind c v i f us vs ls ms xs qs
+  this = callOf kind c v i f us vs is ls ms xs qs
 
   pub is-0 : kind ≡ 0 → this ≡ addSpec c f vs qs v
   unfolding callOf
   is-0 e = if-true _ _ _ (==-in _ _ e)
 
   module _ (n0 : kind ≢ 0) where
-    pub is-1 : kind ≡ 1 → this ≡ addMod c vs ls
+    pub is-1 : kind ≡ 1 → this ≡ addMod c vs is
     unfolding callOf
     is-1 e = if-false _ _ _ (==-not _ _ n0) ∙ if-true _ _ _ (==-in _ _ e)
 
@@ -78,27 +77,41 @@ pub record Carried : Type 0 where
   pub f : ℕ
   pub us : List ℕ
   pub vs : List ℕ
+  pub is : List ℕ
   pub ls : List ℕ
   pub ms : List ℕ
   pub xs : List ℕ
   pub qs : List ℕ
 
 unfoldable pub theCall : Carried → Call
-theCall k = callOf (k .kind) (k .c) (k .v) (k .i) (k .f) (k .us) (k .vs) (k .ls) (k .ms) (k .xs) (k .qs)
+theCall k = callOf (k .kind) (k .c) (k .v) (k .i) (k .f) (k .us) (k .vs) (k .is) (k .ls) (k .ms) (k .xs) (k .qs)
 
-abbrev carry : ℕ → ℕ → ℕ → ℕ → ℕ → List ℕ → List ℕ → List ℕ → List ℕ → List ℕ → List ℕ → Carried
-carry kind c v i f us vs ls ms xs qs = record { kind = kind; c = c; v = v; i = i; f = f; us = us; vs = vs; ls = ls; ms = ms; xs = xs; qs = qs }
+abbrev carry : ℕ → ℕ → ℕ → ℕ → ℕ → List ℕ → List ℕ → List ℕ → List ℕ → List ℕ → List ℕ → List ℕ → Carried
+carry kind c v i f us vs is ls ms xs qs = record {
+  kind = kind;
+  c = c;
+  v = v;
+  i = i;
+  f = f;
+  us = us;
+  vs = vs;
+  is = is;
+  ls = ls;
+  ms = ms;
+  xs = xs;
+  qs = qs;
+}
 
 -- each of the ten calls, with all numbers and slices, is made so
 pub each-call : (q : Call) → (k : Carried) × (theCall k ≡ q)
 unfolding theCall callOf if_then_else_ _==_
-each-call (addSpec c f vs qs s) = (carry 0 c s 0 f [] vs [] [] [] qs, refl)
-each-call (addMod c vs is) = (carry 1 c 0 0 0 [] vs is [] [] [], refl)
-each-call (addSys c us vs ls ms xs) = (carry 2 c 0 0 0 us vs ls ms xs [], refl)
-each-call (addModvar c v f i) = (carry 3 c v i f [] [] [] [] [] [], refl)
-each-call (addSysvar c v ms xs) = (carry 4 c v 0 0 [] [] [] ms xs [], refl)
-each-call (delSpec c) = (carry 5 c 0 0 0 [] [] [] [] [] [], refl)
-each-call (delMod c) = (carry 6 c 0 0 0 [] [] [] [] [] [], refl)
-each-call (delSys c) = (carry 7 c 0 0 0 [] [] [] [] [] [], refl)
-each-call (delModvar c v) = (carry 8 c v 0 0 [] [] [] [] [] [], refl)
-each-call (delSysvar c v) = (carry 9 c v 0 0 [] [] [] [] [] [], refl)
+each-call (addSpec c f vs qs s) = (carry 0 c s 0 f [] vs [] [] [] [] qs, refl)
+each-call (addMod c vs is) = (carry 1 c 0 0 0 [] vs is [] [] [] [], refl)
+each-call (addSys c us vs ls ms xs) = (carry 2 c 0 0 0 us vs [] ls ms xs [], refl)
+each-call (addModvar c v f i) = (carry 3 c v i f [] [] [] [] [] [] [], refl)
+each-call (addSysvar c v ms xs) = (carry 4 c v 0 0 [] [] [] [] ms xs [], refl)
+each-call (delSpec c) = (carry 5 c 0 0 0 [] [] [] [] [] [] [], refl)
+each-call (delMod c) = (carry 6 c 0 0 0 [] [] [] [] [] [] [], refl)
+each-call (delSys c) = (carry 7 c 0 0 0 [] [] [] [] [] [] [], refl)
+each-call (delModvar c v) = (carry 8 c v 0 0 [] [] [] [] [] [] [], refl)
+each-call (delSysvar c v) = (carry 9 c v 0 0 [] [] [] [] [] [] [], refl)

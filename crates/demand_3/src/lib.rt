@@ -7,15 +7,14 @@ ghost use Rattle.book.specs.Plain.{plainOf};
 ghost use Rattle.model.specs.Book as model;
 ghost use Rattle.book_rules.specs.Test as test;
 ghost use Rattle.model_laws.specs.Notions.{howManyPairs};
-ghost use Rattle.command_outcome.specs.Calls.{commandOf};
+ghost use Rattle.command_outcome.specs.Calls.{callOf, commandOf};
 ghost use Rattle.command_outcome.specs.Outcome.{Called};
-ghost use Rattle.parts.specs.Demand.{RightlyListed};
-ghost use Rattle.demand_3.specs.Numbered.{callOf};
+ghost use Rattle.demand_3.specs.PartsCall.{RightlyListed};
 use book::Book;
 use commands::Outcome;
 use parts::PartsList;
 
-// The call of a number. ADD-SPEC's standard version is v, ADD-MOD's implementations are lengths.
+// The call of a number. ADD-SPEC's standard version is v.
 pub fn call<'a>(
     b: Book,
     kind: usize,
@@ -25,19 +24,20 @@ pub fn call<'a>(
     set: u64,
     usable: &'a [usize],
     versions: &'a [usize],
+    implementations: &'a [usize],
     lengths: &'a [usize],
     members: &'a [usize],
     chosen: &'a [usize],
     required: &'a [u64],
 ) -> Outcome
-    ensures { λ r. ⌜ Called (b .sets) (b .numbers) (commandOf (callOf kind c v i set (now (usable .entry)) (now (versions .entry)) (now (lengths .entry))
-        (now (members .entry)) (now (chosen .entry)) (now (required .entry)))) (r .answer) (r .book .sets) (r .book .numbers) ⌝ }
+    ensures { λ r. ⌜ Called (b .sets) (b .numbers) (commandOf (callOf kind c v i set (now (usable .entry)) (now (versions .entry)) (now (implementations .entry))
+        (now (lengths .entry)) (now (members .entry)) (now (chosen .entry)) (now (required .entry)))) (r .answer) (r .book .sets) (r .book .numbers) ⌝ }
 {
     if kind == 0 {
         return commands::add_spec(b, c, set, versions, required, v);
     }
     if kind == 1 {
-        return commands::add_mod(b, c, versions, lengths);
+        return commands::add_mod(b, c, versions, implementations);
     }
     if kind == 2 {
         return commands::add_sys(b, c, usable, versions, lengths, members, chosen);

@@ -1,6 +1,7 @@
 pub mod MapLaws
 pub mod ListLaws
 pub mod RisingLaws
+pub mod FirstNoLaws
 pub mod Notions
 pub mod Reach
 pub mod Heights

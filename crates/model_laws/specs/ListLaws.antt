@@ -11,7 +11,7 @@ use lib.ListN.{length}
 use Rattle.model.specs.Lists.{beside, elem, every, firstFrom, firsts, from, keep, rising, seconds}
 use Rattle.model.specs.Maps.{elseTry, isSome, onlyIf}
 use Rattle.model.specs.Rules.{p, r}
-use Rattle.sets.specs.TestLaws.{==-not, ==-out, ==-same, and-l, and-r, bool?, clash, count-mono, count-none, if-false, if-true}
+use Rattle.sets.specs.TestLaws.{==-not, ==-out, ==-same, and-in, and-l, and-r, bool?, clash, count-mono, count-none, if-false, if-true}
 use Rattle.sets.specs.TestLaws.{one-if-le-suc, one-if-up, or-false, or-l, or-out, or-r, same?}
 use Rattle.sets.specs.Tests.{_==_, _or_, count, one-if}
 use Rattle.model_laws.specs.MapLaws.{isSome-in, no-some, option?}
@@ -21,6 +21,11 @@ unfolding every elem
 every-elem f [] t k e = clash e refl
 every-elem f (x ∷ xs) t k e =
     elim (or-out _ _ e) [ inl q ↦ rw (==-out _ _ q) (and-l _ _ t) | inr q ↦ every-elem f xs (and-r _ _ t) k q ]
+
+pub every-listed : (t : ℕ → Bool) (xs : List ℕ) → ((k : ℕ) → elem k xs ≡ true → t k ≡ true) → every t xs ≡ true
+unfolding every elem
+every-listed t [] h = refl
+every-listed t (x ∷ xs) h = and-in _ _ (h x (or-l _ _ (==-same x))) (every-listed t xs (λ k e. h k (or-r _ _ e)))
 
 pub beside-elem : {A : Type 0} (xs : List (ℕ × A)) (n : ℕ) → isSome (beside xs n) ≡ elem n (firsts xs)
 unfolding beside firsts elem isSome

@@ -9,7 +9,6 @@ use Rattle.model.specs.Book.{Book, Pair, Specs, Systems, components, hasVersion
 use Rattle.model.specs.PartsList.{listed, membersListed}
 use Rattle.model.specs.Questions.{Question}
 use Rattle.model.specs.Rules.{r, reaches}
-use Rattle.model.specs.Teaching.{Call}
 use Rattle.sets.specs.Sets.{Set, meet}
 use Rattle.sets.specs.Tests.{_&_, _==_, _or_, count, ~_}
 

@@ -11,7 +11,6 @@ use Rattle.model.specs.Limits.{Passes}
 use Rattle.model.specs.Maps.{andThen, has, isSome}
 use Rattle.model.specs.PlainBook.{answer, answers, next, reached}
 use Rattle.model.specs.Rules.{B3, B4, B5, B6, B7, B8, B9, p, r}
-use Rattle.model.specs.Teaching.{Call}
 use Rattle.sets.specs.TestLaws.{clash, count-none}
 use Rattle.model_laws.specs.Frame.{composition-in, system-in}
 use Rattle.model_laws.specs.Good.{Good, good→passes, passes→good}

@@ -1,1 +1,8 @@
-pub mod Demand
+pub mod Listed
+pub mod Marks
+pub mod MarkLaws
+pub mod Due
+pub mod DueLaws
+pub mod Rows
+pub mod RowLaws
+pub mod ListedLaws

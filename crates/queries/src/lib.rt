@@ -1,5 +1,5 @@
-// The seven queries as calls on a Book (document 01, "Queries"). Each tests for 25 and then does what its fellow in replies, set_replies or
-// choices does.
+// The seven queries as calls on a Book (document 01, "Queries"). Each tests for 25 and then does what the function of its name with
+// `_in` does (query_replies, query_sets, query_choice).
 ghost use lib.ListN.{length};
 ghost use Rattle.model.specs.Queries.{SUPPLIES, NEEDS, CHOICE, STANDARD, UNDEFINED, UNUSED, WHEREUSED, theVersion};
 ghost use Rattle.query_replies.specs.Replied.{Replied, repliedTo, numbersIn, facilitiesIn, componentsIn};

@@ -3,8 +3,5 @@ pub mod Listed
 pub mod Found
 pub mod RepliedLaws
 pub mod QueryLaws
-pub mod FoundLaws
 pub mod RowLaws
-pub mod ListedLaws
-pub mod ChoiceLaws
 pub mod DecidedLaws

@@ -7,7 +7,7 @@ use Prim.Native.Nat.{_<_, _≤_, suc, zero, ℕ}
 use native.Mathlib.Omega.{arith}
 use borrow.Author.Tests.{not-false, not-true}
 use Rattle.book.specs.Plain.{plainOf}
-use Rattle.command_questions.specs.FirstNoLaws.{no-at, too-large, yes-at}
+use Rattle.model_laws.specs.FirstNoLaws.{no-at, too-large, yes-at}
 use Rattle.model.specs.Book.{Book, components, hasVersion, specified, versions}
 use Rattle.model.specs.Queries.{Query, Reply, asked, found, refused, reply}
 use Rattle.model.specs.Questions.{firstNo}

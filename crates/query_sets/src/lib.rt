@@ -5,7 +5,7 @@ ghost use mathlib.Core.List.{List};
 ghost use Prim.Native.Nat.{ℕ, _<_};
 ghost use lib.ListN.{getD};
 ghost use Rattle.sets.specs.Sets.{bit};
-ghost use Rattle.book_rules.specs.Closure.{Rows};
+ghost use Rattle.book_cycles.specs.Closure.{Rows};
 ghost use Rattle.book.specs.Plain.{plainOf};
 ghost use Rattle.book_rules.specs.Test as test;
 ghost use Rattle.model.specs.Queries.{UNDEFINED, UNUSED, WHEREUSED};

@@ -1,13 +1,14 @@
-// The first word of a command; the names of deletions and queries.
+// A command by its first word, as one datum; the names of deletions and queries.
 ghost use mathlib.Core.Path.{_≡_};
 ghost use mathlib.Core.Bool.{true};
 ghost use Prim.Native.Nat.{_≤_};
 ghost use lib.ListN.{length};
-ghost use Rattle.text.specs.Bytes.{short};
+ghost use Rattle.text.specs.Bytes.{keywords, short};
 ghost use Rattle.names.specs.Stored.{answered, tableOf};
 ghost use Rattle.text.specs.Tables.{place};
-ghost use Rattle.read_tokens.specs.Choices.{ChoiceAsked, KnownStep};
-ghost use Rattle.read_tokens.specs.Words.{CommandAt, OneSaid, PairSaid, commandNumber};
+ghost use Rattle.read_command.specs.Choices.{ChoiceAsked, KnownStep};
+ghost use Rattle.read_command.specs.Forms.{Begins, formOf, wordForm};
+ghost use Rattle.read_command.specs.Words.{OneSaid, PairSaid};
 ghost use Rattle.model.specs.Book.{facilities};
 ghost use Rattle.sets.specs.Sets.{bit};
 ghost use Rattle.read_tokens.specs.Steps.{Each};
@@ -15,12 +16,180 @@ ghost use Rattle.read_tokens.specs.Entering.{Kept};
 ghost use Rattle.text.specs.Language.{Name, Said, choice, comma, listOf, name, ofOne, ofPair};
 ghost use Rattle.words.specs.Reading.{part};
 ghost use Rattle.read_tokens.specs.Readers.{Answers, Span};
-use read_tokens::CommandWord;
-use read_tokens::Known;
 use read_tokens::Part;
-use read_tokens::Parts;
+
+// ---- a command
+
+// What delspec, delmod and delsys take out of a component.
+pub enum Component {
+    Spec,
+    Module,
+    System,
+}
+
+// Of what delmodvar and delsysvar take out a version.
+pub enum Version {
+    Module,
+    System,
+}
+
+// The ten commands.
+pub enum Command {
+    AddSpec,
+    AddMod,
+    AddSys,
+    AddModvar,
+    AddSysvar,
+    Remove(Component),
+    RemoveVersion(Version),
+}
+
+// The queries of a component.
+pub enum OfComponent {
+    Supplies,
+    Standard,
+    WhereUsed,
+}
+
+// The queries of a version.
+pub enum OfVersion {
+    Needs,
+    Parts,
+}
+
+// The queries that name a component, or a component and a version.
+pub enum Named {
+    One(OfComponent),
+    Pair(OfVersion),
+}
+
+// The queries of the whole book; "out" is for its text.
+pub enum OfBook {
+    Undefined,
+    Unused,
+    Text,
+}
+
+// The queries, and "out".
+pub enum Query {
+    ByName(Named),
+    Choice,
+    Whole(OfBook),
+}
+
+// What the first word of a command begins: a command or a query. Over: it is "quit", or the text is at its end. Nothing: what stands there
+// is not of the language.
+pub enum Form {
+    Changes(Command),
+    Asks(Query),
+    Over,
+    Nothing,
+}
+
+// The first word of a command: what it begins, and the position behind it.
+pub struct FirstWord {
+    pub form: Form,
+    pub end: usize,
+}
+
+// By the keyword's number.
+fn form_of(k: usize) -> Form
+    ensures { λ r. ⌜ r ≡ formOf k ⌝ }
+{
+    match k {
+        0 => Form::Asks(Query::ByName(Named::One(OfComponent::Supplies))),
+        1 => Form::Asks(Query::ByName(Named::Pair(OfVersion::Needs))),
+        2 => Form::Asks(Query::Choice),
+        3 => Form::Nothing,
+        4 => Form::Asks(Query::ByName(Named::One(OfComponent::Standard))),
+        5 => Form::Asks(Query::Whole(OfBook::Undefined)),
+        6 => Form::Asks(Query::Whole(OfBook::Unused)),
+        7 => Form::Asks(Query::ByName(Named::One(OfComponent::WhereUsed))),
+        8 => Form::Nothing,
+        9 => Form::Asks(Query::Whole(OfBook::Text)),
+        10 => Form::Over,
+        11 => Form::Changes(Command::AddSpec),
+        12 => Form::Nothing,
+        13 => Form::Nothing,
+        14 => Form::Nothing,
+        15 => Form::Nothing,
+        16 => Form::Changes(Command::AddMod),
+        17 => Form::Nothing,
+        18 => Form::Changes(Command::AddSys),
+        19 => Form::Nothing,
+        20 => Form::Changes(Command::Remove(Component::Spec)),
+        21 => Form::Changes(Command::Remove(Component::Module)),
+        22 => Form::Changes(Command::Remove(Component::System)),
+        23 => Form::Changes(Command::AddModvar),
+        24 => Form::Changes(Command::AddSysvar),
+        25 => Form::Changes(Command::RemoveVersion(Version::Module)),
+        26 => Form::Changes(Command::RemoveVersion(Version::System)),
+        27 => Form::Asks(Query::ByName(Named::Pair(OfVersion::Parts))),
+        _ => Form::Nothing,
+    }
+}
+
+// What the word from a to e begins.
+fn word_form(text: &[u8], a: usize, e: usize) -> Form
+    requires { ⌜ Span (now text) a e ⌝ }
+    ensures { λ r. ⌜ r ≡ wordForm (place keywords (part (now (text .entry)) a e)) ⌝ }
+{
+    if 32 < e - a {
+        return Form::Nothing;
+    }
+    let names::Found::At(k) = words::keyword_of(words::word(text, a, e)) else {
+        return Form::Nothing;
+    };
+    form_of(k)
+}
+
+// The first word of the next command.
+pub fn read_command(text: &[u8], at: usize) -> FirstWord
+    requires { ⌜ at ≤ length (now text) ⌝ }
+    ensures { λ r. ⌜ Begins (now (text .entry)) at (r .form) (r .end) ⌝ }
+{
+    match words::next_token(text, at) {
+        words::Token::Word(a, e) => FirstWord {
+            form: word_form(text, a, e),
+            end: e,
+        },
+        words::Token::Quoted(_, _) => FirstWord {
+            form: Form::Nothing,
+            end: at,
+        },
+        words::Token::Mark(_, _) => FirstWord {
+            form: Form::Nothing,
+            end: at,
+        },
+        words::Token::End => FirstWord {
+            form: Form::Over,
+            end: at,
+        },
+        words::Token::Bad => FirstWord {
+            form: Form::Nothing,
+            end: at,
+        },
+    }
+}
 
 // ---- deletions and queries: the names are parts of the text
+
+// A component and a version, if `there`: the parts of the text that are their names.
+pub struct Parts {
+    pub there: bool,
+    pub start: usize,
+    pub end: usize,
+    pub from: usize,
+    pub to: usize,
+}
+
+// Facilities that were looked up, if `there`: the set of their numbers, if each has one (`known`).
+pub struct Known {
+    pub there: bool,
+    pub end: usize,
+    pub set: u64,
+    pub known: bool,
+}
 
 // del-spec = "delspec" cn, and the others of one component, from behind the first word.
 pub fn read_one(text: &[u8], at: usize) -> Part
@@ -159,55 +328,5 @@ pub fn read_choice(facs: &[u8], text: &[u8], at: usize) -> Known
         end: m.end,
         set: n.set,
         known: n.known,
-    }
-}
-
-// What stands there is not of the language.
-pub const NO_COMMAND: usize = 28;
-
-// "quit" or the end of the text.
-pub const OVER: usize = 29;
-
-const QUIT: usize = 10;
-
-// The word from a to e, as the first of a command.
-fn command_word(text: &[u8], a: usize, e: usize) -> CommandWord
-    requires { ⌜ Span (now text) a e ⌝ }
-    ensures { λ r. ⌜ r .number ≡ commandNumber (part (now (text .entry)) a e) ⌝ }
-    ensures { λ r. ⌜ r .end ≡ e ⌝ }
-{
-    let k = read_tokens::keyword_between(text, a, e);
-    if k == QUIT {
-        return CommandWord {
-            number: OVER,
-            end: e,
-        };
-    }
-    CommandWord { number: k, end: e }
-}
-
-// The first word of the next command; the caller goes on by its number.
-pub fn read_command(text: &[u8], at: usize) -> CommandWord
-    requires { ⌜ at ≤ length (now text) ⌝ }
-    ensures { λ r. ⌜ CommandAt (now (text .entry)) at (r .number) (r .end) ⌝ }
-{
-    match words::next_token(text, at) {
-        words::Token::Word(a, e) => command_word(text, a, e),
-        words::Token::Quoted(_, _) => CommandWord {
-            number: NO_COMMAND,
-            end: at,
-        },
-        words::Token::Mark(_, _) => CommandWord {
-            number: NO_COMMAND,
-            end: at,
-        },
-        words::Token::End => CommandWord {
-            number: OVER,
-            end: at,
-        },
-        words::Token::Bad => CommandWord {
-            number: NO_COMMAND,
-            end: at,
-        },
     }
 }

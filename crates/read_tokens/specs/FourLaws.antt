@@ -1,7 +1,6 @@
 -- The four tables with the new names of a command.
 use mathlib.Core.Bool.{Bool, true}
-use mathlib.Core.Path.{_∙_, _≡_, ap, ap₂, refl, sym}
-use Prim.Native.Nat.{ℕ}
+use mathlib.Core.Path.{_∙_, _≡_, ap, ap₂, refl}
 use Rattle.model.specs.Book.{components, facilities, implementations, versions}
 use Rattle.sets.specs.TestLaws.{and-l, and-r, and-true}
 use Rattle.sets.specs.Tests.{_&_}

@@ -3,10 +3,6 @@ pub mod Entering
 pub mod Steps
 pub mod Asked
 pub mod ModSteps
-pub mod MemberSteps
-pub mod SysSteps
-pub mod Words
-pub mod Choices
 pub mod Requested
 pub mod Growth
 pub mod TokenLaws
@@ -15,15 +11,6 @@ pub mod ListLaws
 pub mod GrowthLaws
 pub mod ProductionLaws
 pub mod FacilityLaws
-pub mod SpecLaws
-pub mod ReaderLaws
-pub mod SpecRequestLaws
 pub mod FourLaws
 pub mod ModLaws
 pub mod PairLaws
-pub mod MemberLaws
-pub mod SysvarLaws
-pub mod SysLaws
-pub mod SysRequestLaws
-pub mod WordLaws
-pub mod ChoiceLaws

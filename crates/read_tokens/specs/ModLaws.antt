@@ -9,7 +9,7 @@ use native.Mathlib.Omega.{arith}
 use borrow.Author.Tests.{not-false, not-true}
 use lib.ListN.{drop, length}
 use Rattle.model.specs.Book.{components, facilities, implementations, versions}
-use Rattle.model.specs.Commands.{ADD-MOD, Command}
+use Rattle.model.specs.Commands.{ADD-MOD}
 use Rattle.model.specs.Maps.{andThen}
 use Rattle.names.specs.EnterLaws.{table-length}
 use Rattle.names.specs.Stored.{tableOf, tablesOf}
@@ -21,7 +21,7 @@ use Rattle.sets.specs.TestLaws.{and-in, and-l, and-r, and-true}
 use Rattle.sets.specs.Tests.{_&_}
 use Rattle.text.specs.Bytes.{Text, bytes, keywords}
 use Rattle.text.specs.Language.{MOD, Name, Said, _>>=_, _>>_, add-mod, give, imp, key, listOf, modVersion, name, semicolon, want}
-use Rattle.text.specs.Tables.{Table, Tables, entered, fits, modNames, modNumbered, nameAt, number}
+use Rattle.text.specs.Tables.{Table, Tables, modNames, modNumbered, nameAt, number}
 use Rattle.text.specs.Tokens.{Token}
 use Rattle.read_tokens.specs.Entering.{Enters}
 use Rattle.read_tokens.specs.FacilityLaws.{singles}

@@ -1,7 +1,7 @@
 -- A component with a version, and "modvar".
 use mathlib.Core.Bool.{Bool, false, true}
 use mathlib.Core.Bool.{not as notᵇ}
-use mathlib.Core.List.{List, [], _∷_}
+use mathlib.Core.List.{List}
 use mathlib.Core.Option.{none, some}
 use mathlib.Core.Path.{_∙_, _≡_, ap, refl, subst, sym}
 use Prim.Native.Nat.{_≤_, ℕ}
@@ -18,12 +18,11 @@ use Rattle.sets.specs.TestLaws.{and-l, and-r, and-true}
 use Rattle.sets.specs.Tests.{_&_}
 use Rattle.text.specs.Bytes.{Text}
 use Rattle.text.specs.Language.{MODVAR, Name, Said, _>>=_, _>>_, add-modvar, give, imp, key, name, pair, point, requirements, want}
-use Rattle.text.specs.Tables.{Table, Tables, modvarNames, modvarNumbered, numbers}
+use Rattle.text.specs.Tables.{Table, Tables, modvarNames, modvarNumbered}
 use Rattle.text.specs.Tokens.{Token}
 use Rattle.read_tokens.specs.Entering.{Enters}
 use Rattle.read_tokens.specs.FacilityLaws.{facilities-are, facilities-grow}
 use Rattle.read_tokens.specs.FourLaws.{FourGrow, four-fits, four-tables}
-use Rattle.read_tokens.specs.Growth.{Grows}
 use Rattle.read_tokens.specs.GrowthLaws.{enters-number, grows-one, longer-same}
 use Rattle.read_tokens.specs.ModLaws.{impl-key}
 use Rattle.read_tokens.specs.ProductionLaws.{at-end}

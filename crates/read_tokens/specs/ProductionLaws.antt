@@ -1,28 +1,25 @@
 -- The productions of the language: a law for each way out of the code.
-use mathlib.Core.Bool.{Bool, _&&_, _||_, false, true}
+use mathlib.Core.Bool.{Bool, false, true}
 use mathlib.Core.Bool.{not as notᵇ}
-use mathlib.Core.List.{List, [], _∷_}
-use mathlib.Core.Option.{Option, none, some}
+use mathlib.Core.List.{List, []}
+use mathlib.Core.Option.{none, some}
 use mathlib.Core.Path.{_∙_, _≡_, ap, refl, subst, sym}
-use Prim.Native.Nat.{_<_, _≤_, ℕ}
+use Prim.Native.Nat.{_≤_, ℕ}
 use native.Mathlib.Nat.{le-refl}
 use native.Mathlib.Omega.{arith}
 use borrow.Author.Tests.{not-false, not-true}
 use lib.ListN.{drop, length}
 use Rattle.model.specs.Book.{facilities, versions}
-use Rattle.model.specs.Lists.{setOf}
 use Rattle.model.specs.Maps.{andThen}
-use Rattle.model.specs.Questions.{eachBelow}
 use Rattle.names.specs.Stored.{tableOf}
-use Rattle.command_lists.specs.Said.{setsStep}
 use Rattle.command_lists.specs.Views.{setsView}
 use Rattle.command_lists.specs.declared.Sets.{Sets}
 use Rattle.sets.specs.Sets.{Set, bit}
-use Rattle.sets.specs.Tests.{_&_, _or_, if_then_else_, ~_}
+use Rattle.sets.specs.Tests.{~_}
 use Rattle.text.specs.Bytes.{Text, bytes, keywords}
-use Rattle.text.specs.Language.{Name, Reader, _>>=_, _>>_, ahead, comma, give, key, listOf, name, names, namesUpTo, requirements, semicolon}
+use Rattle.text.specs.Language.{Name, Reader, _>>=_, _>>_, ahead, comma, give, key, listOf, name, names, namesUpTo, requirements}
 use Rattle.text.specs.Language.{specVersion, want, when}
-use Rattle.text.specs.Tables.{Table, nameAt}
+use Rattle.text.specs.Tables.{nameAt}
 use Rattle.text.specs.Tokens.{Token}
 use Rattle.read_tokens.specs.Asked.{SpecStep, SpecWith, specStart, specState}
 use Rattle.command_lists.specs.Gathered.{Gathered, nothing}

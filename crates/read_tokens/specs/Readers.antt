@@ -1,14 +1,12 @@
 -- What the code answers that reads from a position of the text: it stands for a reader of crate text, `p`.
 use mathlib.Core.Bool.{Bool, false, true}
-use mathlib.Core.List.{List, [], _∷_}
 use mathlib.Core.Option.{Option, none, some}
 use mathlib.Core.Path.{_≡_}
-use Prim.Native.Nat.{_+_, _<_, _≤_, ℕ}
+use Prim.Native.Nat.{_<_, _≤_, ℕ}
 use lib.ListN.{drop, length}
-use Rattle.model.specs.Maps.{orElse}
 use Rattle.text.specs.Bytes.{Text, keywords}
 use Rattle.text.specs.Language.{Reader}
-use Rattle.text.specs.Tables.{nameAt, place}
+use Rattle.text.specs.Tables.{nameAt}
 use Rattle.text.specs.Tokens.{Next, Token, bad, end, mark, nextToken, quoted, token, word}
 use Rattle.words.specs.Reading.{part}
 
@@ -54,10 +52,6 @@ wordOf bad = none
 -- a word: a name or a keyword, or too long for one
 unfoldable pub anyWord : Reader Text
 anyWord t = wordOf (nextToken t)
-
--- the number of the keyword that w is; 28 where it is none
-unfoldable pub keyNumber : Text → ℕ
-keyNumber w = orElse (place keywords w) 28
 
 -- the keyword k as a token
 unfoldable pub keyAt : ℕ → Token

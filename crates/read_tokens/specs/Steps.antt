@@ -1,11 +1,11 @@
 -- What a reader of a list carries from entry to entry, and what one entry changes of it.
-use mathlib.Core.Bool.{Bool, true}
+use mathlib.Core.Bool.{Bool}
 use mathlib.Core.List.{List, [], _∷_}
 use mathlib.Core.Option.{none}
 use mathlib.Core.Path.{_≡_}
 use Prim.Native.Nat.{_≤_, ℕ}
 use lib.ListN.{drop, length}
-use Rattle.model.specs.Book.{components, facilities, implementations, versions}
+use Rattle.model.specs.Book.{facilities}
 use Rattle.sets.specs.Sets.{Set, with}
 use Rattle.sets.specs.Tests.{_&_}
 use Rattle.text.specs.Bytes.{Text}

@@ -1,30 +1,25 @@
 -- Tokens read from a position: a law for each way out of the code.
 use mathlib.Core.Bool.{Bool, false, true}
 use mathlib.Core.Bool.{not as notᵇ}
-use mathlib.Core.List.{List, [], _∷_}
-use mathlib.Core.Logic.{_⊎_, _≢_, inl, inr}
+use mathlib.Core.Logic.{inl, inr}
 use mathlib.Core.Option.{Option, Option·some-injective, none, some}
 use mathlib.Core.Path.{_∙_, _≡_, ap, refl, subst, sym}
-use Prim.Native.Nat.{_+_, _-_, _<_, _≤_, suc, ℕ}
-use native.Mathlib.Nat.{le-refl}
+use Prim.Native.Nat.{_+_, _-_, _<_, _≤_, ℕ}
 use native.Mathlib.Omega.{arith}
 use borrow.Author.Tests.{not-false, not-true}
 use lib.Dec.{eqb}
-use lib.ListN.{drop, length, length-drop, take}
-use Rattle.model.specs.Maps.{isSome, onlyIf, orElse}
-use Rattle.sets.specs.TestLaws.{==-in, ==-out, all-out, bool?, clash, fails, if-false, if-true, iff→≡, ≤?-out}
-use Rattle.sets.specs.Tests.{_&_, _≤?_, all}
+use lib.ListN.{drop, length, length-drop}
+use Rattle.model.specs.Maps.{onlyIf}
+use Rattle.sets.specs.TestLaws.{==-in, ==-out, bool?, clash, fails, if-false, if-true, iff→≡}
 use Rattle.model_laws.specs.MapLaws.{no-some}
-use Rattle.names.specs.declared.Found.{Found}
-use Rattle.names.specs.declared.Found.the-variants.{At, Nothing}
-use Rattle.names.specs.Stored.{answered}
+use Rattle.words.specs.KeywordLaws.{keyword-length}
+use Rattle.words.specs.Keywords.{keywordCount}
 use Rattle.words.specs.TokenLaws.{part-length, short-in}
-use Rattle.text_laws.specs.Places.{place-name}
 use Rattle.text_laws.specs.TextLaws.{same-out, same-sym}
-use Rattle.sets.specs.Tests.{_==_, if_then_else_}
-use Rattle.text.specs.Bytes.{Text, bytes, keywords, nameWord, same, short}
+use Rattle.sets.specs.Tests.{_==_}
+use Rattle.text.specs.Bytes.{Text, keywords, nameWord, same, short}
 use Rattle.text.specs.Language.{Reader, ahead, aheadOf, imp, name, nameOf, quotedOf, want, wantOf}
-use Rattle.text.specs.Tables.{nameAt, place}
+use Rattle.text.specs.Tables.{nameAt}
 use Rattle.text.specs.Tokens.{Next, bad, end, isToken, mark, nextToken, quoted, token, word}
 use Rattle.text.specs.Tokens as tokens
 use Rattle.text_laws.specs.Left.{LeftO, left-length}
@@ -32,7 +27,7 @@ use Rattle.text_laws.specs.Takes.{Takes}
 use Rattle.words.specs.Reading.{Reads, ReadsWithin, nextOf, part}
 use Rattle.words.specs.declared.Token.{Token}
 use Rattle.words.specs.declared.Token.the-variants.{Word, Quoted, Mark, End, Bad}
-use Rattle.read_tokens.specs.Readers.{Answers, Any, Got, PartOf, Span, anyWord, keyAt, keyNumber, wordOf}
+use Rattle.read_tokens.specs.Readers.{Answers, Any, Got, PartOf, Span, anyWord, keyAt, wordOf}
 
 -- ---- answers
 
@@ -68,36 +63,8 @@ part-short t w a e h m q = short-in w (part-some t w a e h q) (let n = part-leng
 
 -- ---- keywords
 
-keyword-length : (k : ℕ) → k < 28 → length (nameAt keywords k) ≤ 32
-keyword-length k h = ≤?-out _ _ (all-out 28 (λ i. length (nameAt keywords i) ≤? 32) each k h)
-  where
-    each : all 28 (λ i. length (nameAt keywords i) ≤? 32) ≡ true
-    each = unfold all nameAt keywords bytes _&_ _≤?_ in refl
-
--- the ways out of keyword_between
-pub key-long : (t : Text) (a e : ℕ) → Span t a e → 32 < e - a → 28 ≡ keyNumber (part t a e)
-unfolding keyNumber orElse
-key-long t a e h l = by (place keywords (part t a e)) refl
-  where
-    by : (o : Option ℕ) → place keywords (part t a e) ≡ o → 28 ≡ orElse (place keywords (part t a e)) 28
-    by none q = sym (ap (λ (o : Option ℕ). orElse o 28) q)
-    by (some j) q =
-        let s = place-name keywords (part t a e) j q in let m : length keywords ≡ 28 = (unfold keywords in refl) in
-        let n = part-length t a e (h .inside) in let o = ap length (s .0) in let i = keyword-length j (omega arith) in
-        absurd (omega arith)
-
-pub key-found : (t w : Text) (a e : ℕ) (f : Found) (j : ℕ) → w ≡ part t a e → answered f ≡ place keywords w → f ≡ At j
-    → j ≡ keyNumber (part t a e)
-unfolding keyNumber answered orElse
-key-found t w a e f j p q h = sym (ap (λ (o : Option ℕ). orElse o 28) (ap (place keywords) (sym p) ∙ sym q ∙ ap answered h))
-
-pub key-none : (t w : Text) (a e : ℕ) (f : Found) → w ≡ part t a e → answered f ≡ place keywords w → f ≡ Nothing
-    → 28 ≡ keyNumber (part t a e)
-unfolding keyNumber answered orElse
-key-none t w a e f p q h = sym (ap (λ (o : Option ℕ). orElse o 28) (ap (place keywords) (sym p) ∙ sym q ∙ ap answered h))
-
 -- the ways out of is_key_between
-pub not-key-long : (t : Text) (a e k : ℕ) → Span t a e → k < 28 → 32 < e - a → false ≡ same (part t a e) (nameAt keywords k)
+pub not-key-long : (t : Text) (a e k : ℕ) → Span t a e → k < keywordCount → 32 < e - a → false ≡ same (part t a e) (nameAt keywords k)
 not-key-long t a e k h l m =
     sym (fails _ (λ s. let q = ap length (same-out _ _ s) in let n = part-length t a e (h .inside) in
     let j = keyword-length k l in absurd (omega arith)))

@@ -7,8 +7,9 @@ ghost use Rattle.text.specs.Bytes.{keywords, nameWord, same};
 ghost use Rattle.text.specs.Tables.{nameAt};
 ghost use Rattle.text.specs.Language.{ahead, imp, name, want};
 ghost use Rattle.text.specs.Tokens.{mark};
+ghost use Rattle.words.specs.Keywords.{keywordCount};
 ghost use Rattle.words.specs.Reading.{part};
-ghost use Rattle.read_tokens.specs.Readers.{Answers, Any, Got, PartOf, Span, Told, anyWord, keyAt, keyNumber};
+ghost use Rattle.read_tokens.specs.Readers.{Answers, Any, Got, PartOf, Span, Told, anyWord, keyAt};
 
 // A part of the text that is of the kind asked for, if `there`.
 pub struct Part {
@@ -135,24 +136,10 @@ pub fn want_mark(text: &[u8], at: usize, c: u8) -> Step
     }
 }
 
-// The number of the keyword that the word from a to e is; 28 where it is none.
-pub fn keyword_between(text: &[u8], a: usize, e: usize) -> usize
-    requires { ⌜ Span (now text) a e ⌝ }
-    ensures { λ r. ⌜ r ≡ keyNumber (part (now (text .entry)) a e) ⌝ }
-{
-    if 32 < e - a {
-        return 28;
-    }
-    let names::Found::At(k) = words::keyword_of(words::word(text, a, e)) else {
-        return 28;
-    };
-    k
-}
-
 // Whether the word from a to e is the keyword with the number k.
 fn is_key_between(text: &[u8], a: usize, e: usize, k: usize) -> bool
     requires { ⌜ Span (now text) a e ⌝ }
-    requires { ⌜ k < 28 ⌝ }
+    requires { ⌜ k < keywordCount ⌝ }
     ensures { λ r. ⌜ r ≡ same (part (now (text .entry)) a e) (nameAt keywords k) ⌝ }
 {
     if 32 < e - a {
@@ -164,7 +151,7 @@ fn is_key_between(text: &[u8], a: usize, e: usize, k: usize) -> bool
 // The keyword with the number k.
 pub fn want_key(text: &[u8], at: usize, k: usize) -> Step
     requires { ⌜ at ≤ length (now text) ⌝ }
-    requires { ⌜ k < 28 ⌝ }
+    requires { ⌜ k < keywordCount ⌝ }
     ensures { λ r. ⌜ Answers (want (keyAt k)) Any (now (text .entry)) at (r .there) (r .end) ⌝ }
 {
     let w = next_word(text, at);
@@ -185,7 +172,7 @@ pub fn want_key(text: &[u8], at: usize, k: usize) -> Step
 // Whether the keyword with the number k comes next; the position behind it if it does.
 pub fn pass_key(text: &[u8], at: usize, k: usize) -> Step
     requires { ⌜ at ≤ length (now text) ⌝ }
-    requires { ⌜ k < 28 ⌝ }
+    requires { ⌜ k < keywordCount ⌝ }
     ensures { λ r. ⌜ Got (ahead (keyAt k)) (Told (r .there)) (now (text .entry)) at (r .end) ⌝ }
 {
     let s = want_key(text, at, k);
@@ -394,29 +381,4 @@ pub struct SysRequest {
     pub usable: command_lists::Usable,
     pub versions: command_lists::Compositions,
     pub room: bool,
-}
-
-// A component and a version, if `there`: the parts of the text that are their names.
-pub struct Parts {
-    pub there: bool,
-    pub start: usize,
-    pub end: usize,
-    pub from: usize,
-    pub to: usize,
-}
-
-// Facilities that were looked up, if `there`: the set of their numbers, if each has one (`known`).
-pub struct Known {
-    pub there: bool,
-    pub end: usize,
-    pub set: u64,
-    pub known: bool,
-}
-
-// ---- the command word
-
-// The first word of a command: the number of a keyword, or NO_COMMAND, or OVER.
-pub struct CommandWord {
-    pub number: usize,
-    pub end: usize,
 }

@@ -1,6 +1,4 @@
-pub mod Scan
 pub mod Filled
-pub mod ScanLaws
 pub mod SameLaws
 pub mod RestLaws
 pub mod FilledLaws

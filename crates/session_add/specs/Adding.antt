@@ -1,6 +1,5 @@
 -- What an adding command of a session's text comes to, the same for all five.
 use mathlib.Core.Bool.{Bool, true}
-use mathlib.Core.List.{List}
 use mathlib.Core.Path.{_≡_}
 use Prim.Native.Nat.{ℕ}
 use Rattle.model.specs.Commands.{Command}

@@ -7,7 +7,7 @@ use mathlib.Core.Path.{_∙_, _≡_, ap, ap₂, refl, subst, sym}
 use Prim.Native.Nat.{suc, zero, ℕ}
 use borrow.Author.Tests.{not-false, not-true}
 use Rattle.book.specs.Plain.{plainOf}
-use Rattle.commands.specs.Demand.{step-right}
+use Rattle.command_outcome.specs.OutcomeLaws.{step-right}
 use Rattle.command_outcome.specs.Outcome.{Called}
 use Rattle.read_tokens.specs.Entering.{Kept}
 use Rattle.read_tokens.specs.Readers.{Answers}

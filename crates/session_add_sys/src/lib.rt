@@ -1,5 +1,5 @@
 // The commands sys and sysvar of a session's text, each from behind its first word: its names are entered into copies of the tables as they
-// are read, and Book and tables are changed only if it is accepted. What an answer means is states/specs/Carried.antt.
+// are read, and Book and tables are changed only if it is accepted. What an answer means is session_state/specs/Carried.antt.
 ghost use Prim.Native.Nat.{_≤_};
 ghost use lib.ListN.{length};
 ghost use Rattle.read_tokens.specs.Readers.{Answers};

@@ -12,6 +12,7 @@ ghost use Rattle.model.specs.Queries as model;
 ghost use Rattle.model.specs.Book.{facilities};
 ghost use Rattle.model.specs.Lists.{every, setOf};
 ghost use Rattle.model.specs.Maps.{isSome};
+ghost use Rattle.read_command.specs.Forms.{askedOfBook};
 ghost use Rattle.read_tokens.specs.Readers.{Answers};
 ghost use Rattle.text.specs.Tables.{place};
 ghost use Rattle.text.specs.Tables as tables;
@@ -19,6 +20,7 @@ ghost use Rattle.names.specs.Stored.{tableOf};
 ghost use Rattle.write_bytes.specs.Room.{Puts};
 ghost use Rattle.session_state.specs.Carried.{Carried, Unread};
 ghost use Rattle.session_state.specs.State.{Ready, stateOf};
+use read_command::OfBook;
 use session_state::Shown;
 use write_bytes::Room;
 
@@ -135,7 +137,7 @@ pub fn show_choice<'a>(
 // ---- of the whole book
 
 // "undefined"
-pub fn show_undefined<'a>(
+fn show_undefined<'a>(
     out: &mut [u8],
     room: Room,
     i: usize,
@@ -156,7 +158,7 @@ pub fn show_undefined<'a>(
 }
 
 // "unused"
-pub fn show_unused<'a>(
+fn show_unused<'a>(
     out: &mut [u8],
     room: Room,
     i: usize,
@@ -177,7 +179,7 @@ pub fn show_unused<'a>(
 }
 
 // ""out" is followed by the book's text"
-pub fn show_text<'a>(
+fn show_text<'a>(
     out: &mut [u8],
     room: Room,
     i: usize,
@@ -194,4 +196,31 @@ pub fn show_text<'a>(
 {
     let a = write_rows::put_answer_row(out, room, i, 0);
     write_book::put_text(out, a, sets, numbers, comps, vers, facs, impls)
+}
+
+// A query of the whole book.
+pub fn show_book<'a>(
+    out: &mut [u8],
+    room: Room,
+    i: usize,
+    sets: &'a [u64; 576],
+    numbers: &'a [u8; 8768],
+    comps: &'a [u8; 1056],
+    vers: &'a [u8; 2112],
+    facs: &'a [u8; 2112],
+    impls: &'a [u8; 8448],
+    what: OfBook,
+) -> Room
+    requires { ⌜ Ready (now sets) (now numbers) (now comps) (now vers) (now facs) (now impls) ⌝ }
+    ensures { λ r. ⌜ Carried i (stateOf (now (sets .entry)) (now (numbers .entry)) (now (comps .entry)) (now (vers .entry)) (now (facs .entry)) (now (impls .entry)))
+        (stateOf (now (sets .entry)) (now (numbers .entry)) (now (comps .entry)) (now (vers .entry)) (now (facs .entry)) (now (impls .entry)))
+        room r (now (out .entry)) (now (out .exit)) (askedOfBook what) ⌝ }
+{
+    match what {
+        OfBook::Undefined => {
+            show_undefined(out, room, i, sets, numbers, comps, vers, facs, impls)
+        }
+        OfBook::Unused => show_unused(out, room, i, sets, numbers, comps, vers, facs, impls),
+        OfBook::Text => show_text(out, room, i, sets, numbers, comps, vers, facs, impls),
+    }
 }

@@ -12,8 +12,9 @@ ghost use Rattle.read_tokens.specs.Readers.{Answers};
 ghost use Rattle.write_bytes.specs.Room.{Puts};
 ghost use Rattle.session_state.specs.Carried.{Carried, Unread};
 ghost use Rattle.session_state.specs.State.{Ready, stateOf};
-ghost use Rattle.session_rows.specs.Asked.{askedOf, queryOf};
-use session_rows::OfComponent;
+ghost use Rattle.read_command.specs.Forms.{askedOf};
+ghost use Rattle.session_rows.specs.Asked.{queryOf};
+use read_command::OfComponent;
 use session_state::Shown;
 use write_bytes::Room;
 

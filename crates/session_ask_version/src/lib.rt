@@ -14,8 +14,9 @@ ghost use Rattle.read_tokens.specs.Readers.{Answers};
 ghost use Rattle.write_bytes.specs.Room.{Puts};
 ghost use Rattle.session_state.specs.Carried.{Carried, Unread};
 ghost use Rattle.session_state.specs.State.{Ready, stateOf};
-ghost use Rattle.session_rows.specs.Asked.{askedOfVersion, queryOfVersion};
-use session_rows::OfVersion;
+ghost use Rattle.read_command.specs.Forms.{askedOfVersion};
+ghost use Rattle.session_rows.specs.Asked.{queryOfVersion};
+use read_command::OfVersion;
 use session_state::Shown;
 use write_bytes::Room;
 

@@ -4,15 +4,13 @@ ghost use lib.ListN.{length};
 ghost use Rattle.read_tokens.specs.Readers.{Answers};
 ghost use Rattle.session_state.specs.Carried.{Decides, Undecided};
 ghost use Rattle.session_state.specs.State.{Ready, stateOf};
-ghost use Rattle.read_forms.specs.Forms.{commandOf};
-use read_forms::Command;
+ghost use Rattle.read_command.specs.Forms.{commandReader};
+use read_command::Command;
 use session_add_spec::add_mod;
 use session_add_spec::add_modvar;
 use session_add_spec::add_spec;
 use session_add_sys::add_sys;
 use session_add_sys::add_sysvar;
-use session_delete::Component;
-use session_delete::Version;
 use session_delete::remove_component;
 use session_delete::remove_version;
 use session_state::Decision;
@@ -32,7 +30,7 @@ pub fn decide(
     requires { ⌜ Ready (now sets) (now numbers) (now comps) (now vers) (now facs) (now impls) ⌝ }
     requires { ⌜ at ≤ length (now text) ⌝ }
     ensures { λ r. ⌜ Ready (now (sets .exit)) (now (numbers .exit)) (now (comps .exit)) (now (vers .exit)) (now (facs .exit)) (now (impls .exit)) ⌝ }
-    ensures { λ r. ⌜ Answers (commandOf command) (Decides (stateOf (now (sets .entry)) (now (numbers .entry)) (now (comps .entry)) (now (vers .entry)) (now (facs .entry)) (now (impls .entry))) (stateOf (now (sets .exit)) (now (numbers .exit)) (now (comps .exit)) (now (vers .exit)) (now (facs .exit)) (now (impls .exit))) (r .answer)) (now (text .entry)) at (r .there) (r .end) ⌝ }
+    ensures { λ r. ⌜ Answers (commandReader command) (Decides (stateOf (now (sets .entry)) (now (numbers .entry)) (now (comps .entry)) (now (vers .entry)) (now (facs .entry)) (now (impls .entry))) (stateOf (now (sets .exit)) (now (numbers .exit)) (now (comps .exit)) (now (vers .exit)) (now (facs .exit)) (now (impls .exit))) (r .answer)) (now (text .entry)) at (r .there) (r .end) ⌝ }
     ensures { λ r. ⌜ Undecided at (stateOf (now (sets .entry)) (now (numbers .entry)) (now (comps .entry)) (now (vers .entry)) (now (facs .entry)) (now (impls .entry))) (stateOf (now (sets .exit)) (now (numbers .exit)) (now (comps .exit)) (now (vers .exit)) (now (facs .exit)) (now (impls .exit))) r ⌝ }
 {
     match command {
@@ -41,60 +39,11 @@ pub fn decide(
         Command::AddSys => add_sys(sets, numbers, comps, vers, facs, impls, text, at),
         Command::AddModvar => add_modvar(sets, numbers, comps, vers, facs, impls, text, at),
         Command::AddSysvar => add_sysvar(sets, numbers, comps, vers, facs, impls, text, at),
-        Command::DelSpec => remove_component(
-            sets,
-            numbers,
-            comps,
-            vers,
-            facs,
-            impls,
-            text,
-            at,
-            Component::Spec,
-        ),
-        Command::DelMod => remove_component(
-            sets,
-            numbers,
-            comps,
-            vers,
-            facs,
-            impls,
-            text,
-            at,
-            Component::Module,
-        ),
-        Command::DelSys => remove_component(
-            sets,
-            numbers,
-            comps,
-            vers,
-            facs,
-            impls,
-            text,
-            at,
-            Component::System,
-        ),
-        Command::DelModvar => remove_version(
-            sets,
-            numbers,
-            comps,
-            vers,
-            facs,
-            impls,
-            text,
-            at,
-            Version::Module,
-        ),
-        Command::DelSysvar => remove_version(
-            sets,
-            numbers,
-            comps,
-            vers,
-            facs,
-            impls,
-            text,
-            at,
-            Version::System,
-        ),
+        Command::Remove(what) => {
+            remove_component(sets, numbers, comps, vers, facs, impls, text, at, what)
+        }
+        Command::RemoveVersion(what) => {
+            remove_version(sets, numbers, comps, vers, facs, impls, text, at, what)
+        }
     }
 }

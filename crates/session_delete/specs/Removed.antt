@@ -4,19 +4,12 @@ use Prim.Native.Nat.{ℕ}
 use Rattle.model.specs.Book.{Book, isModule, isSystem}
 use Rattle.model.specs.Commands.{Command, DEL-MOD, DEL-MODVAR, DEL-SPEC, DEL-SYS, DEL-SYSVAR}
 use Rattle.sets.specs.Tests.{if_then_else_}
-use Rattle.text.specs.Language.{DELMOD, DELMODVAR, DELSPEC, DELSYS, DELSYSVAR, Name, Said}
-use Rattle.session_delete.specs.declared.Component.{Component}
-use Rattle.session_delete.specs.declared.Component.the-variants as component
-use Rattle.session_delete.specs.declared.Version.{Version}
-use Rattle.session_delete.specs.declared.Version.the-variants as version
+use Rattle.read_command.specs.declared.Component.{Component}
+use Rattle.read_command.specs.declared.Component.the-variants as component
+use Rattle.read_command.specs.declared.Version.{Version}
+use Rattle.read_command.specs.declared.Version.the-variants as version
 
 -- ---- delspec, delmod, delsys
-
--- the command that is read
-unfoldable pub removed : Component → Name → Said
-removed component.Spec c = DELSPEC c
-removed component.Module c = DELMOD c
-removed component.System c = DELSYS c
 
 -- the command with the component's number
 unfoldable pub componentCommand : Component → ℕ → Command
@@ -33,11 +26,6 @@ componentAnswer component.Module = 6
 componentAnswer component.System = 7
 
 -- ---- delmodvar, delsysvar
-
--- the command that is read
-unfoldable pub versionRemoved : Version → Name → Name → Said
-versionRemoved version.Module c v = DELMODVAR c v
-versionRemoved version.System c v = DELSYSVAR c v
 
 -- the command with the numbers of the pair
 unfoldable pub versionCommand : Version → ℕ → ℕ → Command

@@ -10,8 +10,8 @@ use borrow.Author.Tests.{not-false}
 use Rattle.book.specs.Plain.{plainOf}
 use Rattle.command_outcome.specs.Outcome.{Called}
 use Rattle.read_tokens.specs.Readers.{Answers}
-use Rattle.read_tokens.specs.Words.{OneSaid, PairSaid}
-use Rattle.read_tokens.specs.declared.Parts.{Parts}
+use Rattle.read_command.specs.Words.{OneSaid, PairSaid}
+use Rattle.read_command.specs.declared.Parts.{Parts}
 use Rattle.model.specs.Book.{Book, components, versions}
 use Rattle.names.specs.EnterLaws.{found-at, found-nothing, table-length}
 use Rattle.names.specs.Stored.{answered, tableOf, tablesOf}
@@ -27,12 +27,13 @@ use Rattle.text.specs.Session.{Result, State, carry, forComponent, forPair, ofC
 use Rattle.text.specs.Tables.{place}
 use Rattle.text_laws.specs.Places.{place-name}
 use Rattle.words.specs.Reading.{part}
-use Rattle.session_delete.specs.Removed.{componentAnswer, componentCommand, isOfKind, pairAnswer, removed, versionAnswer, versionCommand}
-use Rattle.session_delete.specs.Removed.{versionRemoved}
-use Rattle.session_delete.specs.declared.Component.{Component}
-use Rattle.session_delete.specs.declared.Component.the-variants as component
-use Rattle.session_delete.specs.declared.Version.{Version}
-use Rattle.session_delete.specs.declared.Version.the-variants as version
+use Rattle.read_command.specs.Forms.{removed}
+use Rattle.session_delete.specs.Removed.{componentAnswer, componentCommand, isOfKind, pairAnswer, versionAnswer, versionCommand}
+use Rattle.read_command.specs.Forms.{versionRemoved}
+use Rattle.read_command.specs.declared.Component.{Component}
+use Rattle.read_command.specs.declared.Component.the-variants as component
+use Rattle.read_command.specs.declared.Version.{Version}
+use Rattle.read_command.specs.declared.Version.the-variants as version
 use Rattle.session_delete.specs.KeepLaws.{carried-out, unchanged}
 
 -- ---- delspec, delmod, delsys

@@ -7,7 +7,8 @@ ghost use Rattle.book.specs.Plain.{plainOf};
 ghost use Rattle.command_outcome.specs.Outcome.{Called};
 ghost use Rattle.read_tokens.specs.Readers.{Answers, Span};
 ghost use Rattle.names.specs.Stored.{answered, tableOf};
-ghost use Rattle.session_delete.specs.Removed.{componentAnswer, componentCommand, isOfKind, pairAnswer, removed, versionAnswer, versionCommand, versionRemoved};
+ghost use Rattle.read_command.specs.Forms.{removed, versionRemoved};
+ghost use Rattle.session_delete.specs.Removed.{componentAnswer, componentCommand, isOfKind, pairAnswer, versionAnswer, versionCommand};
 ghost use Rattle.book_rules.specs.Test as test;
 ghost use Rattle.session_state.specs.Carried.{Decides, Undecided};
 ghost use Rattle.session_state.specs.State.{Ready, stateOf};
@@ -15,20 +16,9 @@ ghost use Rattle.text.specs.Bytes.{short};
 ghost use Rattle.text.specs.Language.{ofOne, ofPair};
 ghost use Rattle.text.specs.Tables.{place};
 ghost use Rattle.words.specs.Reading.{part};
+use read_command::Component;
+use read_command::Version;
 use session_state::Decision;
-
-// What delspec, delmod and delsys take out of a component.
-pub enum Component {
-    Spec,
-    Module,
-    System,
-}
-
-// Of what delmodvar and delsysvar take out a version.
-pub enum Version {
-    Module,
-    System,
-}
 
 // The place of the part of the text from a to e.
 fn place_of(names: &[u8], places: usize, text: &[u8], a: usize, e: usize) -> names::Found

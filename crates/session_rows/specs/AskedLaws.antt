@@ -8,11 +8,11 @@ use native.Mathlib.Omega.{arith}
 use borrow.Author.Tests.{not-false, not-true}
 use lib.ListN.{length}
 use Rattle.book.specs.Plain.{plainOf}
-use Rattle.read_tokens.specs.Choices.{ChoiceAsked}
+use Rattle.read_command.specs.Choices.{ChoiceAsked}
 use Rattle.read_tokens.specs.Readers.{Answers}
-use Rattle.read_tokens.specs.Words.{OneSaid, PairSaid}
-use Rattle.read_tokens.specs.declared.Known.{Known}
-use Rattle.read_tokens.specs.declared.Parts.{Parts as PairRead}
+use Rattle.read_command.specs.Words.{OneSaid, PairSaid}
+use Rattle.read_command.specs.declared.Known.{Known}
+use Rattle.read_command.specs.declared.Parts.{Parts as PairRead}
 use Rattle.write_bytes.specs.Room.{Puts}
 use Rattle.write_bytes.specs.RoomLaws.{puts-as}
 use Rattle.write_bytes.specs.declared.Room.{Room}
@@ -36,12 +36,14 @@ use Rattle.text.specs.Session.{State, afterwards, asked, carry, decimal, forCom
 use Rattle.text.specs.Tables.{numbers, place}
 use Rattle.text_laws.specs.Places.{place-name}
 use Rattle.words.specs.Reading.{part}
-use Rattle.session_rows.specs.Asked.{askedOf, askedOfVersion, queryOf, queryOfVersion}
+use Rattle.read_command.specs.Forms.{askedOf, askedOfBook, askedOfVersion}
+use Rattle.session_rows.specs.Asked.{queryOf, queryOfVersion}
 use Rattle.session_rows.specs.ShownLaws.{accepted-rows, answer-alone, asked-keeps, carried}
-use Rattle.session_rows.specs.declared.OfComponent.{OfComponent}
-use Rattle.session_rows.specs.declared.OfComponent.the-variants.{Supplies, Standard, WhereUsed}
-use Rattle.session_rows.specs.declared.OfVersion.{OfVersion}
-use Rattle.session_rows.specs.declared.OfVersion.the-variants.{Needs, Parts}
+use Rattle.read_command.specs.declared.OfBook.{OfBook}
+use Rattle.read_command.specs.declared.OfComponent.{OfComponent}
+use Rattle.read_command.specs.declared.OfComponent.the-variants.{Supplies, Standard, WhereUsed}
+use Rattle.read_command.specs.declared.OfVersion.{OfVersion}
+use Rattle.read_command.specs.declared.OfVersion.the-variants.{Needs, Parts}
 
 -- ---- a component
 
@@ -198,3 +200,9 @@ module _ (t : Text) (facs : List ℕ) (at : ℕ) (k : Known) (r : Answers choice
   choice-answers R z =
       answers-as choice (ChoiceAsked (tableOf facilities facs) k) R t at (k .end) (k .there) r (not-false (k .there) n)
       (λ x q. subst R (sym (q .said)) (z (q .fs) (q .all-known) (q .set-is)))
+
+-- ---- the whole book
+
+pub book-carried : (x y : OfBook) → x ≡ y → {i : ℕ} {s s′ : State} {p q : Room} {old new : List ℕ} → Carried i s s′ p q old new (askedOfBook y)
+    → Carried i s s′ p q old new (askedOfBook x)
+book-carried x y e {i} {s} {s′} {p} {q} {old} {new} c = subst (λ (z : OfBook). Carried i s s′ p q old new (askedOfBook z)) (sym e) c

@@ -18,15 +18,15 @@ use Rattle.model.specs.PartsList.{listed, nextRow, parts, rowsFrom}
 use Rattle.model.specs.Queries.{CHOICE, PARTS, Reply, asked, choice, found, pairsFrom, refused, risingPairs, thePairs}
 use Rattle.model.specs.Questions.{eachBelow, firstNo}
 use Rattle.names.specs.Stored.{tablesOf}
-use Rattle.parts_rows.specs.Listed.{partsAnswer, partsAsked, rowNumber}
-use Rattle.parts_rows.specs.Listed as parts-call
+use Rattle.parts.specs.Listed.{partsAnswer, partsAsked, rowNumber}
+use Rattle.parts.specs.Listed as parts-call
 use Rattle.query_replies.specs.Found.{flat}
 use Rattle.query_replies.specs.Listed.{Listed, answerOf, fitted, rowOf, rowsOf}
 use Rattle.query_replies.specs.Replied.{numbersIn, repliedTo}
 use Rattle.query_replies.specs.RepliedLaws.{to-found, to-refused}
 use Rattle.query_replies.specs.RowLaws.{rows-flat}
-use Rattle.command_questions.specs.FirstNoLaws.{none-asked, none-left, others-asked, yes-at}
-use Rattle.command_lists.specs.AnswerLaws.{every-listed}
+use Rattle.model_laws.specs.FirstNoLaws.{none-asked, none-left, others-asked, yes-at}
+use Rattle.model_laws.specs.ListLaws.{every-listed}
 use Rattle.book_rules.specs.Test.{passes}
 use Rattle.book_rules.specs.TestLaws.{passes-plain}
 use Rattle.seqs.specs.Filled.{filled}

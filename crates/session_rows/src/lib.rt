@@ -1,4 +1,5 @@
-// The rows of a query put into the rest of a lent slice: numbers of a set, pairs (specs/Rows.antt). Which query is asked: specs/Asked.antt.
+// The rows of a query put into the rest of a lent slice: numbers of a set, pairs (specs/Rows.antt). Which query is asked of the Book:
+// specs/Asked.antt.
 ghost use mathlib.Core.Path.{_≡_};
 ghost use mathlib.Core.List.{[]};
 ghost use Prim.Native.Nat.{_*_, _<_, _≤_};
@@ -128,19 +129,4 @@ pub fn put_listed<'a>(
 {
     let a = write_rows::put_answer_row(out, room, i, wide(answer));
     put_pairs(out, a, i, comps, vers, rows, count)
-}
-
-// ---- which query is asked
-
-// A query of one component.
-pub enum OfComponent {
-    Supplies,
-    Standard,
-    WhereUsed,
-}
-
-// A query of a component with a version.
-pub enum OfVersion {
-    Needs,
-    Parts,
 }

@@ -3,17 +3,15 @@ use mathlib.Core.Bool.{Bool, false, not, true}
 use mathlib.Core.List.{List, [], _++_}
 use mathlib.Core.Logic.{inl, inr}
 use mathlib.Core.Path.{_∙_, _≡_, ap, refl, subst, sym}
-use Prim.Native.Nat.{_<_, _≤_, suc, ℕ}
+use Prim.Native.Nat.{_≤_, suc, ℕ}
 use native.Mathlib.Omega.{arith}
 use borrow.Author.Tests.{not-false, not-true}
 use lib.ListN.{drop, length, length-drop}
 use Rattle.read_tokens.specs.Readers.{Answers}
-use Rattle.read_tokens.specs.Words.{CommandAt}
 use Rattle.write_bytes.specs.Room.{Puts}
 use Rattle.write_bytes.specs.RoomLaws.{puts-none}
 use Rattle.write_bytes.specs.declared.Room.{Room}
-use Rattle.sets.specs.TestLaws.{<?-no, <?-out, bool?, clash}
-use Rattle.sets.specs.Tests.{_<?_}
+use Rattle.sets.specs.TestLaws.{bool?, clash}
 use Rattle.session_state.specs.Carried.{Carried, Decides, Unread}
 use Rattle.session_state.specs.CarriedLaws.{decides-carried}
 use Rattle.text.specs.Bytes.{Text}
@@ -22,11 +20,12 @@ use Rattle.text.specs.Session.{State, carry, decimal, lines, onRead, row, sessi
 use Rattle.text_laws.specs.Bounds.{session-step}
 use Rattle.text_laws.specs.Left.{left-length}
 use Rattle.text_laws.specs.Takes.{LeftR, command-left}
-use Rattle.read_forms.specs.FormLaws.{form-read, no-form}
-use Rattle.read_forms.specs.Forms.{formOf, readerOf}
+use Rattle.read_command.specs.Forms.{Begins, begun, commandReader, queryReader}
+use Rattle.read_command.specs.declared.Command.{Command}
+use Rattle.read_command.specs.declared.Query.{Query}
 use Rattle.session_step.specs.Stepped.{Behind, Stepped, sessionOf}
-use Rattle.read_forms.specs.declared.Form.{Form}
-use Rattle.read_forms.specs.declared.Form.the-variants.{Nothing}
+use Rattle.read_command.specs.declared.Form.{Form}
+use Rattle.read_command.specs.declared.Form.the-variants.{Asks, Changes, Nothing, Over}
 
 as-read : (i : ℕ) (s : State) (t : Text) (r : Read) → command t ≡ r
     → sessionOf i s t ≡ onRead (λ s′ u. sessionFrom (length u) (suc i) s′ u) i s r
@@ -99,14 +98,14 @@ module _ {k : Reader Said} {i : ℕ} {t : Text} {at : ℕ} {s s′ : State} {p q
         stops = λ y. clash refl y;
       }
 
-  pub behind-unread : {R : Said → Type 0} {e : ℕ} {there : Bool} → Answers k R t at there e → not there ≡ true → s′ ≡ s
-      → Puts (row i (decimal 23)) p q old new → Behind k i t at s s′ p q old new false 0
+  pub behind-unread : {R : Said → Type 0} {e z : ℕ} {there more : Bool} → Answers k R t at there e → not there ≡ true → s′ ≡ s
+      → (more ≡ false) × (z ≡ 0) × Puts (row i (decimal 23)) p q old new → Behind k i t at s s′ p q old new more z
   behind-unread d h c r = record {
-    read = λ y. clash y refl;
+    read = λ y. clash y (r .0);
     unread = λ y. d .no (not-true _ h);
-    refused = λ y. r;
+    refused = λ y. r .2;
     unchanged = λ y. c;
-    stops = λ y. refl;
+    stops = λ y. r .1;
   }
 
   pub behind-shown : {e : ℕ} {there : Bool} → Answers k (Carried i s s′ p q old new) t at there e → not there ≡ false
@@ -120,51 +119,54 @@ module _ {k : Reader Said} {i : ℕ} {t : Text} {at : ℕ} {s s′ : State} {p q
   }
 
 pub behind-unshown : {k : Reader Said} {i : ℕ} {t : Text} {at : ℕ} {s : State} {p q r : Room} {old mid new : List ℕ} {R : Said → Type 0}
-    {e : ℕ} {there : Bool} → Answers k R t at there e → Unread there at e p q old mid → not there ≡ true
-    → Puts (row i (decimal 23)) q r mid new → Behind k i t at s s p r old new false 0
+    {e z : ℕ} {there more : Bool} → Answers k R t at there e → Unread there at e p q old mid → not there ≡ true
+    → (more ≡ false) × (z ≡ 0) × Puts (row i (decimal 23)) q r mid new → Behind k i t at s s p r old new more z
 behind-unshown {i = i} {p = p} {r = r} {mid = mid} {new = new} d u h g =
     let n = not-true _ h in
-    behind-unread d h refl
-    (subst (λ (x : List ℕ). Puts (row i (decimal 23)) p r x new) (u .slice n)
-    (subst (λ (x : Room). Puts (row i (decimal 23)) x r mid new) (u .room n) g))
+    behind-unread d h refl (
+      g .0,
+      g .1,
+      subst (λ (x : List ℕ). Puts (row i (decimal 23)) p r x new) (u .slice n)
+          (subst (λ (x : Room). Puts (row i (decimal 23)) x r mid new) (u .room n) (g .2)),
+    )
 
--- ---- the whole step
+-- ---- the whole step, by what the first word begins
 
-below : {n : ℕ} → (28 ≤ n → ⊥) → n < 28
-below h = omega (arith, h)
+module _ {t : Text} {f : Form} {e : ℕ} (c : Begins t 0 f e) where
+  begun-as : (g : Form) → f ≡ g → command t ≡ begun g (drop e t)
+  begun-as g h = c .is ∙ ap (λ (x : Form). begun x (drop e t)) h
 
-module _ {t : Text} {n e : ℕ} (c : CommandAt t 0 n e) where
-  found-as : n < 28 → (f : Form) → formOf n ≡ f → command t ≡ readAs (readerOf f (drop e t))
-  found-as b f h = c .begins b ∙ form-read n b (drop e t) ∙ ap (λ (g : Form). readAs (readerOf g (drop e t))) h
+  module _ {i : ℕ} {s : State} {p : Room} {old : List ℕ} where
+    pub steps-over : f ≡ Over → Stepped i t s s p p old old false 0
+    unfolding begun
+    steps-over h = step-over i t s p old (begun-as Over h)
 
-  begun : (f : Form) → formOf n ≡ f → (f ≡ Nothing → ⊥) → n < 28
-  begun f h h′ = below (λ j. h′ (sym h ∙ sym (no-form n j)))
+  module _ {i : ℕ} {s : State} {p q : Room} {old new : List ℕ} {more : Bool} {z : ℕ} where
+    stops-wrong : command t ≡ wrong → (more ≡ false) × (z ≡ 0) × Puts (row i (decimal 23)) p q old new → Stepped i t s s p q old new more z
+    stops-wrong w r = subst (λ (b : Bool). Stepped i t s s p q old new b z) (sym (r .0)) (step-wrong i t s p old q new z (r .1) w (r .2))
 
-  pub begun-inside : (f : Form) → formOf n ≡ f → (f ≡ Nothing → ⊥) → e ≤ length t
-  begun-inside f h h′ = c .inside (begun f h h′)
+    pub steps-nothing : f ≡ Nothing → (more ≡ false) × (z ≡ 0) × Puts (row i (decimal 23)) p q old new → Stepped i t s s p q old new more z
+    unfolding begun
+    steps-nothing h r = stops-wrong (begun-as Nothing h) r
 
-  pub steps-behind : {i : ℕ} {s s′ : State} {p q : Room} {old new : List ℕ} {more : Bool} {z : ℕ} (f : Form) → formOf n ≡ f → (f ≡ Nothing → ⊥)
-      → Behind (readerOf f) i t e s s′ p q old new more z → Stepped i t s s′ p q old new more z
-  unfolding readAs
-  steps-behind {i} {s} {s′} {p} {q} {old} {new} {more} {z} f h h′ d = elim (bool? more) [
-    | inl y ↦ (let g = d .read y in
-        subst (λ (b : Bool). Stepped i t s s′ p q old new b z) (sym y)
-        (step-said i t s p old s′ q new (g .value) z (g .inside) (command-is ∙ ap readAs (g .is)) (g .took)))
-    | inr y ↦ subst (λ (b : Bool). Stepped i t s s′ p q old new b z) (sym y)
-        (subst (λ (u : State). Stepped i t s u p q old new false z) (sym (d .unchanged y))
-        (step-wrong i t s p old q new z (d .stops y) (command-is ∙ ap readAs (d .unread y)) (d .refused y)))
-  ]
-    where
-      command-is : command t ≡ readAs (readerOf f (drop e t))
-      command-is = found-as (begun f h h′) f h
-
-  pub steps-nothing : {i : ℕ} {s : State} {p q : Room} {old new : List ℕ} → (n ≡ 29 → ⊥) → formOf n ≡ Nothing
-      → Puts (row i (decimal 23)) p q old new → Stepped i t s s p q old new false 0
-  unfolding readAs readerOf
-  steps-nothing {i} {s} {p} {q} {old} {new} a h r = step-wrong i t s p old q new 0 refl not-read r
-    where
-      not-read : command t ≡ wrong
-      not-read = elim (bool? (n <? 28)) [
-        | inl y ↦ found-as (<?-out _ _ y) Nothing h
-        | inr y ↦ c .none-there (let j = <?-no _ _ y in let m = c .numbered in omega (arith, a))
+    module _ {s′ : State} where
+      steps-behind : (k : Reader Said) → command t ≡ readAs (k (drop e t)) → Behind k i t e s s′ p q old new more z
+          → Stepped i t s s′ p q old new more z
+      unfolding readAs
+      steps-behind k w d = elim (bool? more) [
+        | inl y ↦ (let g = d .read y in
+            subst (λ (b : Bool). Stepped i t s s′ p q old new b z) (sym y)
+            (step-said i t s p old s′ q new (g .value) z (g .inside) (w ∙ ap readAs (g .is)) (g .took)))
+        | inr y ↦ subst (λ (u : State). Stepped i t s u p q old new more z) (sym (d .unchanged y))
+            (stops-wrong (w ∙ ap readAs (d .unread y)) (y, d .stops y, d .refused y))
       ]
+
+      pub steps-changed : (x : Command) → f ≡ Changes x → Behind (commandReader x) i t e s s′ p q old new more z
+          → Stepped i t s s′ p q old new more z
+      unfolding begun
+      steps-changed x h d = steps-behind (commandReader x) (begun-as (Changes x) h) d
+
+      pub steps-asked : (x : Query) → f ≡ Asks x → Behind (queryReader x) i t e s s′ p q old new more z
+          → Stepped i t s s′ p q old new more z
+      unfolding begun
+      steps-asked x h d = steps-behind (queryReader x) (begun-as (Asks x) h) d

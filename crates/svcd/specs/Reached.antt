@@ -30,8 +30,8 @@ pub record Leaves (t : Text) (old new : List ℕ) (fits : Bool) (n : ℕ) (s : S
 unfoldable pub stateIn : SessionEnd → State
 stateIn r = stateOf (r .book .sets) (r .book .numbers) (r .names .comps) (r .names .vers) (r .names .facs) (r .names .impls)
 
--- What the library's session on the text t gives back, and the slice then. "It hands back the listing's length or 22"; "The library's
--- session also hands back its book and tables as reached; after 22 both are empty."
+-- What the library's session on the text t gives back, and the slice then: 0 with the listing's length, or 22. "The library's session also
+-- hands back its book and tables as reached; after 22 both are empty."
 pub record SessionCall (t : Text) (old new : List ℕ) (r : SessionEnd) : Type 0 where
   pub answer : r .answer ≡ answerOf old t
   pub len : r .len ≡ lengthOf old t

@@ -16,7 +16,6 @@ use Rattle.text.specs.Handed.{namesHold}
 use Rattle.text.specs.LentSlice.{hostResult, hostSlice, sliceAfter, stateAfter}
 use Rattle.text.specs.Tables.{Table, Tables}
 use Rattle.text.specs.TablesTable.{table-of}
-use contract.Running.{tables}
 
 -- ---- the question for 25 on tables, put to the teaching book with other tables
 

@@ -19,7 +19,6 @@ use Rattle.text.specs.Tables.{Tables, entered, fits, joined, modNames, m
 use Rattle.text.specs.Tables.{noNames, numbers, place, specNames, specNumbered, sysNames, sysNumbered, sysvarNames}
 use Rattle.text.specs.Tables.{sysvarNumbered}
 use Rattle.text.specs.Written.{written}
-use contract.Running.{tables}
 use Rattle.model.specs.Queries as queries
 
 pub record State : Type 0 where

@@ -10,7 +10,6 @@ use Rattle.model.specs.Maps.{optionMap, orElse}
 use Rattle.sets.specs.Tests.{_&_, _≤?_, if_then_else_}
 use Rattle.text.specs.Bytes.{among, same}
 use Rattle.text.specs.Language.{Name, NamedMembers}
-use types.Kit.{later}
 
 -- The names at the places 0, 1, .. of a table. A place that holds no byte is free, and so is every place behind the last.
 abbrev pub Table : Type 0

@@ -1,5 +1,5 @@
 -- The tables of names, by hand from document 01: the places that a session's names get, and names that stand in no table. The question
--- for 24 is in text_theorems (specs/FullTables.antt).
+-- for 24 is in text_laws (specs/FullTables.antt).
 use mathlib.Core.List.{List, [], _∷_, map}
 use mathlib.Core.Path.{_≡_, refl}
 use Prim.Native.String.{String}

@@ -13,7 +13,6 @@ use Rattle.text.specs.Bytes.{Text, bytes, same}
 use Rattle.text.specs.Language.{CHOICE, DELMOD, DELMODVAR, DELSPEC, DELSYS, DELSYSVAR, MOD, MODVAR, NEEDS, Name, NamedMembers}
 use Rattle.text.specs.Language.{OUT, PARTS, SPEC, STANDARD, SUPPLIES, SYS, SYSVAR, Said, UNDEFINED, UNUSED, WHEREUSED}
 use Rattle.text.specs.Tables.{Table, Tables, joined, nameAt}
-use types.Kit.{later}
 
 -- ---- a command as a line of text
 

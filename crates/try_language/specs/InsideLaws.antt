@@ -1,20 +1,21 @@
 -- A command that was read ends within the text.
 use mathlib.Core.Bool.{Bool, false, true}
 use mathlib.Core.Bool.{not as notᵇ}
-use mathlib.Core.Path.{_∙_, _≡_, ap}
+use mathlib.Core.Path.{_∙_, _≡_, ap, sym}
 use Prim.Native.Nat.{_*_, _-_, _<_, _≤_, ℕ}
 use native.Mathlib.Omega.{arith}
 use borrow.Author.Tests.{not-false}
 use lib.ListN.{length, length-replicate, replicate}
 use Rattle.model.specs.Lists.{every, nonEmpty}
 use Rattle.names.specs.StoredLaws.{zeros-empty}
+use Rattle.sets.specs.TestLaws.{clash}
 use Rattle.text_laws.specs.TextLaws.{every-none}
 use Rattle.read_tokens.specs.Entering.{Kept}
 use Rattle.text.specs.Bytes.{Text}
 use Rattle.text.specs.Language.{DELMODVAR, DELSPEC, Name, Reader, Said, ofOne, ofPair}
 use Rattle.read_tokens.specs.Readers.{Answers, Span}
-use Rattle.read_tokens.specs.Words.{CommandAt, OneSaid, PairSaid}
-use Rattle.read_tokens.specs.declared.Parts.{Parts}
+use Rattle.read_command.specs.Words.{OneSaid, PairSaid}
+use Rattle.read_command.specs.declared.Parts.{Parts}
 use Rattle.try_language.specs.Inside.{Inside}
 
 pub read-inside : {A : Type 0} (p : Reader A) (R : A → Type 0) (t : Text) (at e : ℕ) (there : Bool) → Answers p R t at there e
@@ -24,8 +25,11 @@ read-inside p R t at e there r = record { is = λ y. r .yes y .inside }
 pub here-inside : (t : Text) (there : Bool) (e : ℕ) → e ≤ length t → Inside t there e
 here-inside t there e h = record { is = λ y. h }
 
-pub command-inside : (t : Text) (at n e : ℕ) → CommandAt t at n e → n < 28 → e ≤ length t
-command-inside t at n e r h = r .inside h
+pub none-inside : (t : Text) (there : Bool) (e at : ℕ) → (there ≡ false) × (e ≡ at) → Inside t there e
+none-inside t there e at h = record { is = λ y. clash y (h .0) }
+
+pub told-inside : (t : Text) (there there′ : Bool) (e e′ : ℕ) → Inside t there e → (there′ ≡ there) × (e′ ≡ e) → Inside t there′ e′
+told-inside t there there′ e e′ i h = record { is = λ y. (let l = i .is (sym (h .0) ∙ y) in let q = h .1 in omega arith) }
 
 pub inside-there : (t : Text) (there : Bool) (e : ℕ) → Inside t there e → notᵇ there ≡ false → e ≤ length t
 inside-there t there e i n = i .is (not-false there n)

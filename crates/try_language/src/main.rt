@@ -1,12 +1,22 @@
 // Reads texts from standard input, parted by form feeds, and prints a line for each command: the number of the text, the number of the
 // command's keyword, the position behind the command, and what was read. The four tables are empty at the start of each text and keep
 // their names from command to command. `stdout` was written from document 01.
+ghost use mathlib.Core.Bool.{false};
 ghost use mathlib.Core.Path.{_≡_};
 ghost use Prim.Native.Nat.{_<_, _≤_};
 ghost use lib.ListN.{length};
 ghost use Rattle.model.specs.Book.{components, facilities, implementations, versions};
 ghost use Rattle.read_tokens.specs.Entering.{Kept};
 ghost use Rattle.try_language.specs.Inside.{Inside};
+use read_command::Command;
+use read_command::Component;
+use read_command::Form;
+use read_command::Named;
+use read_command::OfBook;
+use read_command::OfComponent;
+use read_command::OfVersion;
+use read_command::Query;
+use read_command::Version;
 use read_tokens::Step;
 
 // What parts two texts: a form feed, which is no white space.
@@ -246,7 +256,7 @@ fn print_sysvar(number: usize, r: read_tokens::SysvarRequest) {
     print(b"\n");
 }
 
-fn print_choice(number: usize, r: read_tokens::Known) {
+fn print_choice(number: usize, r: read_command::Known) {
     if !r.there {
         return;
     }
@@ -443,55 +453,52 @@ fn alone(number: usize, keyword: usize, at: usize) -> Step
     }
 }
 
-fn is_of_one(keyword: usize) -> bool {
-    match keyword {
-        SUPPLIES | STANDARD | WHEREUSED | DELSPEC | DELMOD | DELSYS => true,
-        _ => false,
+// ---- the keyword that begins a deletion or a query
+
+fn of_component(what: Component) -> usize {
+    match what {
+        Component::Spec => DELSPEC,
+        Component::Module => DELMOD,
+        Component::System => DELSYS,
     }
 }
 
-fn is_of_pair(keyword: usize) -> bool {
-    match keyword {
-        NEEDS | DELMODVAR | DELSYSVAR | PARTS => true,
-        _ => false,
+fn of_version(what: Version) -> usize {
+    match what {
+        Version::Module => DELMODVAR,
+        Version::System => DELSYSVAR,
     }
 }
 
-fn is_alone(keyword: usize) -> bool {
-    match keyword {
-        UNDEFINED | UNUSED | OUT => true,
-        _ => false,
+fn of_one(what: OfComponent) -> usize {
+    match what {
+        OfComponent::Supplies => SUPPLIES,
+        OfComponent::Standard => STANDARD,
+        OfComponent::WhereUsed => WHEREUSED,
     }
 }
 
-// A deletion or a query.
-fn asking(number: usize, keyword: usize, facs: &[u8], text: &[u8], at: usize) -> Step
-    requires { ⌜ Kept facilities (now facs) ⌝ }
-    requires { ⌜ at ≤ length (now text) ⌝ }
-    ensures { λ r. ⌜ Inside (now (text .entry)) (r .there) (r .end) ⌝ }
-{
-    if is_of_one(keyword) {
-        return one(number, keyword, text, at);
-    }
-    if is_of_pair(keyword) {
-        return pair(number, keyword, text, at);
-    }
-    if keyword == CHOICE {
-        return choice(number, facs, text, at);
-    }
-    if is_alone(keyword) {
-        return alone(number, keyword, at);
-    }
-    Step {
-        there: false,
-        end: at,
+fn of_pair(what: OfVersion) -> usize {
+    match what {
+        OfVersion::Needs => NEEDS,
+        OfVersion::Parts => PARTS,
     }
 }
 
-// Any command.
-fn any(
+fn of_book(what: OfBook) -> usize {
+    match what {
+        OfBook::Undefined => UNDEFINED,
+        OfBook::Unused => UNUSED,
+        OfBook::Text => OUT,
+    }
+}
+
+// ---- a command of each form
+
+// One of the ten commands.
+fn change(
     number: usize,
-    keyword: usize,
+    command: Command,
     comps: &mut [u8],
     vers: &mut [u8],
     facs: &mut [u8],
@@ -510,13 +517,37 @@ fn any(
     ensures { λ r. ⌜ Kept implementations (now (impls .exit)) ⌝ }
     ensures { λ r. ⌜ Inside (now (text .entry)) (r .there) (r .end) ⌝ }
 {
-    match keyword {
-        SPEC => spec(number, comps, vers, facs, text, at),
-        MOD => module(number, comps, vers, impls, text, at),
-        SYS => system(number, comps, vers, text, at),
-        MODVAR => modvar(number, comps, vers, facs, impls, text, at),
-        SYSVAR => sysvar(number, comps, vers, text, at),
-        _ => asking(number, keyword, facs, text, at),
+    match command {
+        Command::AddSpec => spec(number, comps, vers, facs, text, at),
+        Command::AddMod => module(number, comps, vers, impls, text, at),
+        Command::AddSys => system(number, comps, vers, text, at),
+        Command::AddModvar => modvar(number, comps, vers, facs, impls, text, at),
+        Command::AddSysvar => sysvar(number, comps, vers, text, at),
+        Command::Remove(what) => one(number, of_component(what), text, at),
+        Command::RemoveVersion(what) => pair(number, of_version(what), text, at),
+    }
+}
+
+fn ask_named(number: usize, named: Named, text: &[u8], at: usize) -> Step
+    requires { ⌜ at ≤ length (now text) ⌝ }
+    ensures { λ r. ⌜ Inside (now (text .entry)) (r .there) (r .end) ⌝ }
+{
+    match named {
+        Named::One(what) => one(number, of_one(what), text, at),
+        Named::Pair(what) => pair(number, of_pair(what), text, at),
+    }
+}
+
+// A query.
+fn ask(number: usize, query: Query, facs: &[u8], text: &[u8], at: usize) -> Step
+    requires { ⌜ Kept facilities (now facs) ⌝ }
+    requires { ⌜ at ≤ length (now text) ⌝ }
+    ensures { λ r. ⌜ Inside (now (text .entry)) (r .there) (r .end) ⌝ }
+{
+    match query {
+        Query::ByName(named) => ask_named(number, named, text, at),
+        Query::Choice => choice(number, facs, text, at),
+        Query::Whole(what) => alone(number, of_book(what), at),
     }
 }
 
@@ -531,6 +562,25 @@ fn print_over(number: usize, at: usize) {
 fn print_wrong(number: usize, at: usize) {
     print_start(number, b" not of the language, 23, from ", at);
     print(b"\n");
+}
+
+fn none(at: usize) -> Step
+    ensures { λ r. ⌜ (r .there ≡ false) × (r .end ≡ at) ⌝ }
+{
+    Step {
+        there: false,
+        end: at,
+    }
+}
+
+// What was read, if it was; else it is said that it is not of the language.
+fn tell(number: usize, at: usize, s: Step) -> Step
+    ensures { λ r. ⌜ (r .there ≡ s .there) × (r .end ≡ s .end) ⌝ }
+{
+    if !s.there {
+        print_wrong(number, at);
+    }
+    s
 }
 
 // The next command of a text. After "quit", the end of the text, or what is not of the language none is there.
@@ -554,25 +604,24 @@ fn print_next(
     ensures { λ r. ⌜ Kept implementations (now (impls .exit)) ⌝ }
     ensures { λ r. ⌜ Inside (now (text .entry)) (r .there) (r .end) ⌝ }
 {
-    let none = Step {
-        there: false,
-        end: at,
-    };
     let w = read_command::read_command(text, at);
-    if w.number == read_command::OVER {
-        print_over(number, w.end);
-        return none;
-    }
-    if read_command::NO_COMMAND <= w.number {
-        print_wrong(number, at);
-        return none;
-    }
     let e = w.end;
-    let s = any(number, w.number, comps, vers, facs, impls, text, e);
-    if !s.there {
-        print_wrong(number, at);
+    let form = w.form;
+    match form {
+        Form::Changes(command) => {
+            let s = change(number, command, comps, vers, facs, impls, text, e);
+            tell(number, at, s)
+        }
+        Form::Asks(query) => {
+            let s = ask(number, query, facs, text, e);
+            tell(number, at, s)
+        }
+        Form::Over => {
+            print_over(number, e);
+            none(at)
+        }
+        Form::Nothing => tell(number, at, none(at)),
     }
-    s
 }
 
 // The commands of a text. A command ends behind its start, so the second test says no.

@@ -4,3 +4,5 @@ pub mod SkipLaws
 pub mod RunLaws
 pub mod TokenLaws
 pub mod NameLaws
+pub mod Keywords
+pub mod KeywordLaws

@@ -8,6 +8,7 @@ ghost use Rattle.sets.specs.Sets.{bit};
 ghost use Rattle.text.specs.Bytes.{same, short, white, alnum, isMark, keywords, nameWord, validName, validImplementation};
 ghost use Rattle.text.specs.Tables.{nameAt, place};
 ghost use Rattle.text.specs.Tokens.{tokenAt, nextToken};
+ghost use Rattle.words.specs.Keywords.{keywordCount};
 ghost use Rattle.words.specs.Reading.{passes, staysOpen, inRun, Skips, RunsTo, quotedFrom, Reads, keywordHashes, hashOf};
 ghost use Rattle.names.specs.Stored.{answered};
 
@@ -172,8 +173,11 @@ pub fn word<'a>(text: &'a [u8], start: usize, end: usize) -> &'a [u8]
 
 // ---- keywords and names
 
+// How many keywords there are (specs/Keywords.antt).
+const KEYWORD_COUNT: usize = 28;
+
 // The keywords in their order, as a table of names: 33 bytes for each, its length first.
-const KEYWORDS: [u8; 924] = *b"\
+const KEYWORDS: [u8; 33 * KEYWORD_COUNT] = *b"\
     \x08supplies\0\0\0\0\0\0\0\0\0\0\0\0\0\0\0\0\0\0\0\0\0\0\0\0\
     \x05needs\0\0\0\0\0\0\0\0\0\0\0\0\0\0\0\0\0\0\0\0\0\0\0\0\0\0\0\
     \x06choice\0\0\0\0\0\0\0\0\0\0\0\0\0\0\0\0\0\0\0\0\0\0\0\0\0\0\
@@ -230,16 +234,16 @@ pub fn keyword_of(word: &[u8]) -> names::Found
     if !may_be_keyword(word) {
         return names::Found::Nothing;
     }
-    names::lookup(&KEYWORDS, 28, word)
+    names::lookup(&KEYWORDS, KEYWORD_COUNT, word)
 }
 
 // Whether a word is the keyword with the number k.
 pub fn is_keyword(word: &[u8], k: usize) -> bool
-    requires { ⌜ k < 28 ⌝ }
+    requires { ⌜ k < keywordCount ⌝ }
     requires { ⌜ short (now word) ≡ true ⌝ }
     ensures { λ r. ⌜ r ≡ same (now (word .entry)) (nameAt keywords k) ⌝ }
 {
-    names::holds(&KEYWORDS, 28, k, word)
+    names::holds(&KEYWORDS, KEYWORD_COUNT, k, word)
 }
 
 // Whether a word that was read is a name.

@@ -7,13 +7,13 @@ ghost use Rattle.text.specs.Written.{written};
 ghost use Rattle.names.specs.Stored.{tableOf, tablesOf};
 ghost use Rattle.write_bytes.specs.Room.{Puts};
 ghost use Rattle.write_bytes.specs.ByName.{listed};
-ghost use Rattle.write_bytes.specs.Lines.{lineOf, hasLine, withIf, isNext, nextSystem, systemLines};
+ghost use Rattle.write_line.specs.Lines.{lineOf, hasLine, withIf, isNext, nextSystem, systemLines};
 ghost use Rattle.model.specs.Book.{isSystem};
 ghost use Rattle.book.specs.Plain.{plainOf, systemsOf};
 ghost use Rattle.write_bytes.specs.Written.{wrote, startingWith};
-use write_bytes::Kind;
 use write_bytes::Room;
 use write_bytes::Wrote;
+use write_version::Kind;
 
 // The lines of a set of components.
 fn put_lines<'a>(

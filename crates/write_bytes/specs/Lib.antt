@@ -1,17 +1,9 @@
 pub mod Room
 pub mod ByName
-pub mod Pieces
-pub mod Lines
 pub mod RoomLaws
 pub mod DecimalLaws
 pub mod NameLaws
 pub mod BeforeLaws
 pub mod ByNameLaws
-pub mod ListedLaws
-pub mod PieceLaws
-pub mod LineLaws
-pub mod ComponentLaws
-pub mod SystemLaws
-pub mod TextLaws
 pub mod Written
 pub mod WrittenLaws

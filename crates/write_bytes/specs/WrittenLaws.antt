@@ -10,8 +10,8 @@ use lib.ListN.{length, take}
 use Rattle.model.specs.Book.{components, versions}
 use Rattle.names.specs.Stored.{tableOf}
 use Rattle.seqs.specs.Filled.{filled}
-use Rattle.sets.specs.TestLaws.{and-r, and-true, if-false, if-true}
-use Rattle.sets.specs.Tests.{_&_, _≤?_}
+use Rattle.sets.specs.TestLaws.{and-true, if-false, if-true}
+use Rattle.sets.specs.Tests.{_≤?_}
 use Rattle.text.specs.Bytes.{Text, bytes}
 use Rattle.text.specs.Session.{decimal, row}
 use Rattle.text.specs.Tables.{nameAt}
@@ -19,7 +19,6 @@ use Rattle.write_bytes.specs.Room.{Puts, writtenIn}
 use Rattle.write_bytes.specs.RoomLaws.{puts-as, puts-then}
 use Rattle.write_bytes.specs.Written.{pairOf, startingWith, wrote}
 use Rattle.write_bytes.specs.declared.Room.{Room}
-use Rattle.write_bytes.specs.declared.Wrote.{Wrote}
 
 abbrev whole : List ℕ → Room
 whole old = record { fits = true; left = length old }

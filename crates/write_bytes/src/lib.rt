@@ -1,4 +1,4 @@
-// Rows and the text of a book, written into the rest of a lent slice.
+// Bytes, numbers and names written into the rest of a lent slice, and rows of them.
 ghost use mathlib.Core.Path.{_≡_};
 ghost use mathlib.Core.List.{_∷_, [], _++_};
 ghost use Prim.Native.Nat.{_*_, _≤_};
@@ -226,11 +226,4 @@ pub fn pair_row(out: &mut [u8], i: usize, comps: &[u8], vers: &[u8], c: usize, v
         fits: true,
         len: room.left - measured.left,
     }
-}
-
-// What a line tells of a component.
-pub enum Kind {
-    Spec,
-    Module,
-    System,
 }

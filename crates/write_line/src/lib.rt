@@ -9,12 +9,12 @@ ghost use Rattle.text.specs.Written.{line, specOf, modOf, sysOf};
 ghost use Rattle.names.specs.Stored.{tableOf, tablesOf};
 ghost use Rattle.write_bytes.specs.Room.{Puts};
 ghost use Rattle.write_bytes.specs.ByName.{listed};
-ghost use Rattle.write_bytes.specs.Pieces.{versionOf};
-ghost use Rattle.write_bytes.specs.Lines.{ifAsked, versionsIn, endingOf, lineOf};
+ghost use Rattle.write_version.specs.Pieces.{versionOf};
+ghost use Rattle.write_line.specs.Lines.{ifAsked, versionsIn, endingOf, lineOf};
 ghost use Rattle.model.specs.Book.{hasVersion};
 ghost use Rattle.book.specs.Plain.{plainOf, specsOf};
-use write_bytes::Kind;
 use write_bytes::Room;
+use write_version::Kind;
 
 fn put_version<'a>(
     out: &mut [u8],

@@ -11,10 +11,17 @@ ghost use Rattle.text.specs.Tables.{nameAt};
 ghost use Rattle.names.specs.Stored.{tableOf, tablesOf};
 ghost use Rattle.write_bytes.specs.Room.{Puts};
 ghost use Rattle.write_bytes.specs.ByName.{listed};
-ghost use Rattle.write_bytes.specs.Pieces.{namesOf, requiredText, specVersion, modVersion, memberText, sysVersion};
+ghost use Rattle.write_version.specs.Pieces.{namesOf, requiredText, specVersion, modVersion, memberText, sysVersion};
 ghost use Rattle.model.specs.Book.{isMember};
 ghost use Rattle.book.specs.Plain.{plainOf, systemsOf};
 use write_bytes::Room;
+
+// What a line tells of a component.
+pub enum Kind {
+    Spec,
+    Module,
+    System,
+}
 
 pub fn put_if(out: &mut [u8], room: Room, asked: bool, word: &[u8]) -> Room
     ensures { λ r. ⌜ Puts (if asked then now (word .entry) else []) room r (now (out .entry)) (now (out .exit)) ⌝ }

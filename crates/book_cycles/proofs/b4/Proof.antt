@@ -2,7 +2,7 @@ use borrow.Author.Needs.{needs}
 use native.Mathlib.Omega.{arith}
 use Prim.Native.Nat.{_≤_, _-_}
 use Rattle.book_rules.specs.RuleLaws.{ifSystem}
-use Rattle.book_rules.specs.Closure.{selfFree}
+use Rattle.book_cycles.specs.Closure.{selfFree}
 use Rattle.model.specs.Rules.{B4, eachSystem}
 use Rattle.sets.specs.Tests.{all}
 use Rattle.sets.specs.LoopLaws.{all-start, all-turn, all-stop, all-end}

@@ -1,7 +1,7 @@
 use borrow.Author.Needs.{needs}
 use native.Mathlib.Omega.{arith}
 use Prim.Native.Nat.{_≤_, _-_}
-use Rattle.book_rules.specs.Closure.{Rows, rows-end}
+use Rattle.book_cycles.specs.Closure.{Rows, rows-end}
 use Rattle.book.specs.Plain.{systemsOf}
 use Rattle.book_cycles.proofs.closure.Statement.{statement}
 use Rattle.book_cycles.proofs.closure.Tie as tie

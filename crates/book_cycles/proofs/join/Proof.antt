@@ -1,4 +1,4 @@
-use Rattle.book_rules.specs.Closure.{join-yes, join-no}
+use Rattle.book_cycles.specs.Closure.{join-yes, join-no}
 use borrow.Author.Needs.{needs}
 use Rattle.book_cycles.proofs.join.Statement.{statement}
 use Rattle.book_cycles.proofs.join.Tie as tie

@@ -2,7 +2,7 @@ use Prim.Native.Nat.{ℕ}
 use borrow.Author.Needs.{needs}
 use native.Mathlib.Omega.{arith}
 use Prim.Native.Nat.{_≤_, _-_}
-use Rattle.book_rules.specs.Closure.{Joined, joined-start, joined-turn, joined-end}
+use Rattle.book_cycles.specs.Closure.{Joined, joined-start, joined-turn, joined-end}
 use lib.ListN.{length-replicate}
 use Rattle.book.specs.Plain.{systemsOf}
 use Prim.Native.Nat.{_+_}

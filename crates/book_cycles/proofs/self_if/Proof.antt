@@ -1,4 +1,4 @@
-use Rattle.book_rules.specs.Closure.{self-test, self-skip}
+use Rattle.book_cycles.specs.Closure.{self-test, self-skip}
 use borrow.Author.Needs.{needs}
 use Rattle.book_cycles.proofs.self_if.Statement.{statement}
 use Rattle.book_cycles.proofs.self_if.Tie as tie

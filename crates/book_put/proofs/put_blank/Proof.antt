@@ -1,7 +1,7 @@
 use borrow.Author.Needs.{needs}
 use native.Mathlib.Omega.{arith}
 use Prim.Native.Nat.{_≤_, _-_}
-use Rattle.book.specs.SpecLaws.{Cleared, cleared-start, cleared-turn, blank-put}
+use Rattle.book_put.specs.SpecLaws.{Cleared, cleared-start, cleared-turn, blank-put}
 use Rattle.book_put.proofs.put_blank.Statement.{statement}
 use Rattle.book_put.proofs.put_blank.Tie as tie
 

@@ -1,7 +1,7 @@
 use borrow.Author.Needs.{needs}
 use native.Mathlib.Omega.{arith}
 use Prim.Native.Nat.{_≤_, _-_}
-use Rattle.book.specs.SpecLaws.{spec-begin, spec-end, spec-asks, spec-in, spec-out}
+use Rattle.book_put.specs.SpecLaws.{spec-begin, spec-end, spec-asks, spec-in, spec-out}
 use Rattle.book.specs.Changes.{Holds, withSpec, specFrom}
 use Rattle.book.specs.Plain.{plainOf}
 use Rattle.sets.specs.Sets.{bit}

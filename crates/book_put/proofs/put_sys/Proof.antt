@@ -1,7 +1,7 @@
 use borrow.Author.Needs.{needs}
 use native.Mathlib.Omega.{arith}
 use Prim.Native.Nat.{_≤_, _-_}
-use Rattle.book.specs.SystemLaws.{Composed, composed-start, composed-hit, composed-miss, system-put}
+use Rattle.book_put.specs.SystemLaws.{Composed, composed-start, composed-hit, composed-miss, system-put}
 use mathlib.Core.Logic.{⊎-elim}
 use Rattle.book_put.proofs.put_sys.Statement.{statement}
 use Rattle.book_put.proofs.put_sys.Tie as tie

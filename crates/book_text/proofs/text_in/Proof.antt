@@ -1,5 +1,5 @@
 use borrow.Author.Needs.{needs}
-use Rattle.names_test.specs.AnsweredLaws.{no-book, no-names, too-short, writes}
+use Rattle.book_text.specs.AnsweredLaws.{no-book, no-names, too-short, writes}
 use Rattle.book_text.proofs.text_in.Statement.{statement}
 use Rattle.book_text.proofs.text_in.Tie as tie
 

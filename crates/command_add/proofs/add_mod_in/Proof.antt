@@ -1,7 +1,7 @@
 use borrow.Author.Needs.{needs}
 use mathlib.Core.Path.{_∙_, sym}
 use Rattle.command_outcome.specs.OutcomeLaws.{accept, refuse-any}
-use Rattle.command_outcome.specs.AddLaws.{mod-answers, mod-component, mod-holds, mod-specified, mod-undefined}
+use Rattle.command_add.specs.AddLaws.{mod-answers, mod-component, mod-holds, mod-specified, mod-undefined}
 use Rattle.book_rules.specs.TestLaws.{passes-proper, passes-plain}
 use Rattle.command_add.proofs.add_mod_in.Statement.{statement}
 use Rattle.command_add.proofs.add_mod_in.Tie as tie

@@ -2,7 +2,7 @@ use borrow.Author.Needs.{needs}
 use mathlib.Core.Path.{_∙_, sym}
 use native.Mathlib.Omega.{arith}
 use Rattle.command_outcome.specs.OutcomeLaws.{accept, refuse-any}
-use Rattle.command_outcome.specs.AddLaws.{spec-answers, spec-component, spec-few, spec-holds, spec-new, spec-standard}
+use Rattle.command_add.specs.AddLaws.{spec-answers, spec-component, spec-few, spec-holds, spec-new, spec-standard}
 use Rattle.book_rules.specs.TestLaws.{passes-proper}
 use Rattle.command_add.proofs.add_spec_in.Statement.{statement}
 use Rattle.command_add.proofs.add_spec_in.Tie as tie

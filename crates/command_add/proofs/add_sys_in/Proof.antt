@@ -1,7 +1,7 @@
 use borrow.Author.Needs.{needs}
 use mathlib.Core.Path.{_∙_, sym}
 use Rattle.command_outcome.specs.OutcomeLaws.{accept, refuse, refuse-any}
-use Rattle.command_outcome.specs.AddSystemLaws.{sys-0, sys-19, sys-20, sys-21, sys-holds, sys-refused}
+use Rattle.command_add.specs.AddSystemLaws.{sys-0, sys-19, sys-20, sys-21, sys-holds, sys-refused}
 use Rattle.book_rules.specs.TestLaws.{is-yes}
 use Rattle.command_add.proofs.add_sys_in.Statement.{statement}
 use Rattle.command_add.proofs.add_sys_in.Tie as tie

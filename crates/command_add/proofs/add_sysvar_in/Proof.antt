@@ -1,7 +1,7 @@
 use borrow.Author.Needs.{needs}
 use mathlib.Core.Path.{_∙_, sym}
 use Rattle.command_outcome.specs.OutcomeLaws.{accept, refuse, refuse-any}
-use Rattle.command_outcome.specs.AddSystemLaws.{sysvar-0, sysvar-21, sysvar-holds, sysvar-refused}
+use Rattle.command_add.specs.AddSystemLaws.{sysvar-0, sysvar-21, sysvar-holds, sysvar-refused}
 use Rattle.command_add.proofs.add_sysvar_in.Statement.{statement}
 use Rattle.command_add.proofs.add_sysvar_in.Tie as tie
 

@@ -1,5 +1,5 @@
 use Rattle.command_outcome.specs.OutcomeLaws.{refuse, accept}
-use Rattle.command_outcome.specs.DeleteLaws.{del-mod-1, del-mod-6, del-mod-0}
+use Rattle.command_delete.specs.DeleteLaws.{del-mod-1, del-mod-6, del-mod-0}
 use Rattle.book_rules.specs.TestLaws.{passes-proper, is-yes}
 use native.Mathlib.Omega.{arith}
 use borrow.Author.Needs.{needs}

@@ -1,5 +1,5 @@
 use Rattle.command_outcome.specs.OutcomeLaws.{refuse, accept}
-use Rattle.command_outcome.specs.DeleteLaws.{modvar-out, out-1, out-1v, out-kind, out-10, out-15, out-18, out-0}
+use Rattle.command_delete.specs.DeleteLaws.{modvar-out, out-1, out-1v, out-kind, out-10, out-15, out-18, out-0}
 use Rattle.book_rules.specs.TestLaws.{passes-proper, is-yes}
 use mathlib.Core.Path.{_∙_}
 use native.Mathlib.Omega.{arith}

@@ -1,5 +1,5 @@
 use Rattle.command_outcome.specs.OutcomeLaws.{refuse, accept}
-use Rattle.command_outcome.specs.DeleteLaws.{del-spec-1, del-spec-4, del-spec-18, del-spec-0}
+use Rattle.command_delete.specs.DeleteLaws.{del-spec-1, del-spec-4, del-spec-18, del-spec-0}
 use Rattle.book_rules.specs.TestLaws.{passes-proper}
 use native.Mathlib.Omega.{arith}
 use borrow.Author.Needs.{needs}

@@ -1,5 +1,5 @@
 use Rattle.command_outcome.specs.OutcomeLaws.{refuse, accept}
-use Rattle.command_outcome.specs.DeleteLaws.{del-sys-1, del-sys-7, del-sys-21, del-sys-0, del-sys-B4}
+use Rattle.command_delete.specs.DeleteLaws.{del-sys-1, del-sys-7, del-sys-21, del-sys-0, del-sys-B4}
 use Rattle.book_rules.specs.TestLaws.{passes-proper, passes-plain, is-yes}
 use native.Mathlib.Omega.{arith}
 use borrow.Author.Needs.{needs}

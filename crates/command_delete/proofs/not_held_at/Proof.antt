@@ -1,4 +1,4 @@
-use Rattle.command_outcome.specs.Asked.{no-member, other-version, is-member}
+use Rattle.command_delete.specs.Asked.{no-member, other-version, is-member}
 use borrow.Author.Needs.{needs}
 use Rattle.command_delete.proofs.not_held_at.Statement.{statement}
 use Rattle.command_delete.proofs.not_held_at.Tie as tie

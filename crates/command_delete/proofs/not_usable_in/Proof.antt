@@ -1,4 +1,4 @@
-use Rattle.command_outcome.specs.Asked.{not-usable-is}
+use Rattle.command_delete.specs.Asked.{not-usable-is}
 use borrow.Author.Needs.{needs}
 use Rattle.command_delete.proofs.not_usable_in.Statement.{statement}
 use Rattle.command_delete.proofs.not_usable_in.Tie as tie

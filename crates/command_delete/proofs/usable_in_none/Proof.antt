@@ -5,7 +5,7 @@ use mathlib.Core.Bool.{true}
 use Rattle.sets.specs.Tests.{all}
 use Rattle.sets.specs.LoopLaws.{all-start, all-turn, all-stop, all-end}
 use Rattle.book.specs.Plain.{systemsOf}
-use Rattle.command_outcome.specs.Asked.{notUsableIn}
+use Rattle.command_delete.specs.Asked.{notUsableIn}
 use Rattle.model.specs.Questions.{usableInNone}
 use borrow.Author.Needs.{needs}
 use Rattle.command_delete.proofs.usable_in_none.Statement.{statement}

@@ -7,7 +7,7 @@ use lib.ListN.{length}
 use Rattle.model.specs.Book.{components}
 use Rattle.sets.specs.Tests.{_==_, if_then_else_}
 use Rattle.command_lists.specs.Said.{always, isVersionOrNone, itself, membersOf, membersSaid, membersStep, versionSaid}
-use Rattle.command_lists.specs.SliceLaws.{PairsLeft, pairs-start, pairs-turn, pairs-first, pairs-second, pairs-end}
+use Rattle.command_slices.specs.SliceLaws.{PairsLeft, pairs-start, pairs-turn, pairs-first, pairs-second, pairs-end}
 use Rattle.command_lists.specs.Views.{compositionView}
 use Rattle.command_slices.proofs.composition_of.Statement.{statement}
 use Rattle.command_slices.proofs.composition_of.Tie as tie

@@ -4,8 +4,8 @@ use native.Mathlib.Omega.{arith}
 use Prim.Native.Nat.{_-_, _≤_}
 use mathlib.Core.Path.{refl}
 use lib.ListN.{length}
-use Rattle.command_lists.specs.SliceLaws.{CompositionsLeft, compositions-start, compositions-turn, compositions-end}
-use Rattle.command_lists.specs.SliceLaws.{few-members, few-versions, lengths-end, lengths-left, members-left, versions-left}
+use Rattle.command_slices.specs.SliceLaws.{CompositionsLeft, compositions-start, compositions-turn, compositions-end}
+use Rattle.command_slices.specs.SliceLaws.{few-members, few-versions, lengths-end, lengths-left, members-left, versions-left}
 use Rattle.command_slices.proofs.compositions_of.Statement.{statement}
 use Rattle.command_slices.proofs.compositions_of.Tie as tie
 

@@ -5,7 +5,7 @@ use Prim.Native.Nat.{_-_}
 use lib.ListN.{length}
 use Rattle.model.specs.Book.{versions}
 use Rattle.command_lists.specs.Said.{always, implementationsSaid, isImplementation, itself, numbersOf, numbersStep}
-use Rattle.command_lists.specs.SliceLaws.{PairsLeft, pairs-start, pairs-turn, pairs-first, pairs-second, pairs-end}
+use Rattle.command_slices.specs.SliceLaws.{PairsLeft, pairs-start, pairs-turn, pairs-first, pairs-second, pairs-end}
 use Rattle.command_lists.specs.Views.{numbersView}
 use Rattle.command_slices.proofs.numbers_of.Statement.{statement}
 use Rattle.command_slices.proofs.numbers_of.Tie as tie

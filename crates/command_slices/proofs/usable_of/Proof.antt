@@ -3,7 +3,7 @@ use borrow.Author.Needs.{needs}
 use native.Mathlib.Omega.{arith}
 use Prim.Native.Nat.{_-_}
 use lib.ListN.{length}
-use Rattle.command_lists.specs.SliceLaws.{UsableLeft, usable-start, usable-turn, usable-end}
+use Rattle.command_slices.specs.SliceLaws.{UsableLeft, usable-start, usable-turn, usable-end}
 use Rattle.command_slices.proofs.usable_of.Statement.{statement}
 use Rattle.command_slices.proofs.usable_of.Tie as tie
 

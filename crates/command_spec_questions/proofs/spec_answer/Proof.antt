@@ -2,7 +2,7 @@ use mathlib.Core.Path.{_∙_, sym}
 use native.Mathlib.Omega.{arith}
 use borrow.Author.Needs.{needs}
 use borrow.Author.Tests.{not-false, not-true}
-use Rattle.command_questions.specs.FirstNoLaws.{no-at, none-left, not-yes, too-large, yes-at}
+use Rattle.model_laws.specs.FirstNoLaws.{no-at, none-left, not-yes, too-large, yes-at}
 use Rattle.command_questions.specs.Asked.{specQuestions}
 use Rattle.command_questions.specs.AskedLaws.{all-free-is, few-bits, many-bits, none-bits, some-bits, spec-asked}
 use Rattle.sets.specs.TestLaws.{<?-in, and-false, and-in, and-true, not-in}

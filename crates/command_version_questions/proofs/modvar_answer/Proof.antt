@@ -2,7 +2,7 @@ use mathlib.Core.Path.{_∙_, sym}
 use native.Mathlib.Omega.{arith}
 use borrow.Author.Needs.{needs}
 use borrow.Author.Tests.{not-false, not-true}
-use Rattle.command_questions.specs.FirstNoLaws.{no-at, none-left, not-yes, too-large, yes-at}
+use Rattle.model_laws.specs.FirstNoLaws.{no-at, none-left, not-yes, too-large, yes-at}
 use Rattle.command_lists.specs.Answers.{modvarAnswer}
 use Rattle.command_questions.specs.AskedLaws.{provided-free}
 use Rattle.sets.specs.TestLaws.{<?-in, and-false, and-in, and-true, not-in}

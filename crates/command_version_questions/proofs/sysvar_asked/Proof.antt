@@ -3,7 +3,7 @@ use native.Mathlib.Omega.{arith}
 use borrow.Author.Needs.{needs}
 use borrow.Author.Tests.{not-false, not-true}
 use Rattle.model.specs.Questions.{firstNo}
-use Rattle.command_questions.specs.FirstNoLaws.{no-at, none-left, not-yes, too-large, yes-at}
+use Rattle.model_laws.specs.FirstNoLaws.{no-at, none-left, not-yes, too-large, yes-at}
 use Rattle.command_questions.specs.Asked.{sysvarQuestions}
 use Rattle.command_questions.specs.AskedLaws.{none-low, some-low, sysvar-asked}
 use Rattle.sets.specs.TestLaws.{<?-in, and-false, and-in, and-true, not-in}

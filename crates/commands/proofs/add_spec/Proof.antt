@@ -1,7 +1,7 @@
 use Rattle.command_outcome.specs.OutcomeLaws.{refuse-25}
 use Rattle.command_outcome.specs.Calls.{commandOf}
 use Rattle.command_lists.specs.Said.{facilitiesSaid, requirementsSaid}
-use Rattle.command_lists.specs.SliceLaws.{said-below, said-set}
+use Rattle.command_slices.specs.SliceLaws.{said-below, said-set}
 use Rattle.book_rules.specs.TestLaws.{is-yes}
 use borrow.Author.Tests.{not-true}
 use mathlib.Core.Path.{_∙_, sym}

@@ -1,5 +1,5 @@
 use borrow.Author.Needs.{needs}
-use Rattle.parts.specs.Demand.{parts-call-right}
+use Rattle.demand_3.specs.PartsCall.{parts-call-right}
 use Rattle.demand_3.proofs.listed.Statement.{statement}
 use Rattle.demand_3.proofs.listed.Tie as tie
 

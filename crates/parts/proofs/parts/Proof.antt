@@ -2,7 +2,7 @@ use borrow.Author.Needs.{needs}
 use borrow.Author.Tests.{not-true}
 use mathlib.Core.Path.{_∙_, sym}
 use Rattle.book_rules.specs.TestLaws.{is-yes}
-use Rattle.parts_rows.specs.ListedLaws.{refuse-25}
+use Rattle.parts.specs.ListedLaws.{refuse-25}
 use Rattle.parts.proofs.parts.Statement.{statement}
 use Rattle.parts.proofs.parts.Tie as tie
 

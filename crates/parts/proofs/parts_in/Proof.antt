@@ -2,8 +2,8 @@ use borrow.Author.Needs.{needs}
 use native.Mathlib.Omega.{arith}
 use Rattle.model_laws.specs.Good.{passes→good}
 use Rattle.book_rules.specs.TestLaws.{passes-plain, is-yes}
-use Rattle.parts_rows.specs.RowLaws.{rows-within}
-use Rattle.parts_rows.specs.ListedLaws.{refuse, list, no-1, no-1v, no-4, no-10, no-22, no-none}
+use Rattle.parts.specs.RowLaws.{rows-within}
+use Rattle.parts.specs.ListedLaws.{refuse, list, no-1, no-1v, no-4, no-10, no-22, no-none}
 use Rattle.parts.proofs.parts_in.Statement.{statement}
 use Rattle.parts.proofs.parts_in.Tie as tie
 

@@ -4,7 +4,7 @@ use mathlib.Core.Path.{_≡_}
 use Prim.Native.Nat.{_≤_, _-_}
 use lib.ListN.{length, length-set, take}
 use Rattle.seqs.specs.Filled.{filled}
-use Rattle.parts_rows.specs.RowLaws.{write-start, write-turn, write-end}
+use Rattle.parts.specs.RowLaws.{write-start, write-turn, write-end}
 use Rattle.parts.proofs.write_rows.Statement.{statement}
 use Rattle.parts.proofs.write_rows.Tie as tie
 

@@ -1,4 +1,4 @@
-use Rattle.query_replies.specs.ChoiceLaws.{choice-25}
+use Rattle.query_choice.specs.ChoiceLaws.{choice-25}
 use Rattle.book_rules.specs.TestLaws.{is-yes}
 use borrow.Author.Needs.{needs}
 use Rattle.queries.proofs.choice.Statement.{statement}

@@ -1,4 +1,4 @@
-use Rattle.query_replies.specs.ChoiceLaws.{choice-0, choice-22}
+use Rattle.query_choice.specs.ChoiceLaws.{choice-0, choice-22}
 use borrow.Author.Needs.{needs}
 use Rattle.query_choice.proofs.choice_in.Statement.{statement}
 use Rattle.query_choice.proofs.choice_in.Tie as tie

@@ -3,7 +3,7 @@ use borrow.Author.Needs.{needs}
 use native.Mathlib.Omega.{arith}
 use Prim.Native.Nat.{_≤_, _-_}
 use Rattle.query_replies.specs.Found.{Chosen}
-use Rattle.query_replies.specs.ChoiceLaws.{chosen-end, chosen-start, chosen-turn}
+use Rattle.query_choice.specs.ChoiceLaws.{chosen-end, chosen-start, chosen-turn}
 use lib.ListN.{length-replicate}
 use Rattle.book.specs.Plain.{specsOf}
 use Rattle.sets.specs.Sets.{bit}

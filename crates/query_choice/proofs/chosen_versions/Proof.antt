@@ -1,4 +1,4 @@
-use Rattle.query_replies.specs.ChoiceLaws.{chosen-no, chosen-yes}
+use Rattle.query_choice.specs.ChoiceLaws.{chosen-no, chosen-yes}
 use borrow.Author.Needs.{needs}
 use Rattle.query_choice.proofs.chosen_versions.Statement.{statement}
 use Rattle.query_choice.proofs.chosen_versions.Tie as tie

@@ -3,7 +3,7 @@ use native.Mathlib.Omega.{arith}
 use Prim.Native.Nat.{_≤_, _-_}
 use lib.ListN.{length-drop, length-take}
 use Rattle.query_replies.specs.Found.{RowsTo}
-use Rattle.query_replies.specs.ListedLaws.{rows-end, rows-length, rows-low, rows-room, rows-start, rows-turn}
+use Rattle.query_choice.specs.ListedLaws.{rows-end, rows-length, rows-low, rows-room, rows-start, rows-turn}
 use Rattle.query_choice.proofs.write_rows.Statement.{statement}
 use Rattle.query_choice.proofs.write_rows.Tie as tie
 

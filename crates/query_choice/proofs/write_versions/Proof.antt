@@ -3,7 +3,7 @@ use native.Mathlib.Omega.{arith}
 use Prim.Native.Nat.{_<_, _≤_, _-_}
 use Rattle.query_replies.specs.Found.{WrittenTo}
 use Rattle.query_replies.specs.Listed.{rowOf}
-use Rattle.query_replies.specs.ListedLaws.{write-end, write-hit, write-length, write-low, write-miss, write-none, write-room, write-start}
+use Rattle.query_choice.specs.ListedLaws.{write-end, write-hit, write-length, write-low, write-miss, write-none, write-room, write-start}
 use Rattle.sets.specs.SetLaws.{bit-zero}
 use Rattle.sets.specs.Sets.{bit}
 use mathlib.Core.Logic.{⊎-elim}

@@ -1,4 +1,4 @@
-use Rattle.query_replies.specs.FoundLaws.{undefined-no, undefined-module, undefined-last}
+use Rattle.query_sets.specs.FoundLaws.{undefined-no, undefined-module, undefined-last}
 use borrow.Author.Needs.{needs}
 use Rattle.query_sets.proofs.is_undefined.Statement.{statement}
 use Rattle.query_sets.proofs.is_undefined.Tie as tie

@@ -1,4 +1,4 @@
-use Rattle.query_replies.specs.FoundLaws.{unused-no, unused-last}
+use Rattle.query_sets.specs.FoundLaws.{unused-no, unused-last}
 use borrow.Author.Needs.{needs}
 use Rattle.query_sets.proofs.is_unused.Statement.{statement}
 use Rattle.query_sets.proofs.is_unused.Tie as tie

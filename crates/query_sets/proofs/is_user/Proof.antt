@@ -1,4 +1,4 @@
-use Rattle.query_replies.specs.FoundLaws.{uses-itself, uses-other}
+use Rattle.query_sets.specs.FoundLaws.{uses-itself, uses-other}
 use borrow.Author.Needs.{needs}
 use Rattle.query_sets.proofs.is_user.Statement.{statement}
 use Rattle.query_sets.proofs.is_user.Tie as tie

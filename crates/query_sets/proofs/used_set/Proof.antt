@@ -1,7 +1,7 @@
 use borrow.Author.Needs.{needs}
 use native.Mathlib.Omega.{arith}
 use Prim.Native.Nat.{_≤_, _-_}
-use Rattle.query_replies.specs.FoundLaws.{used-is, union-usable}
+use Rattle.query_sets.specs.FoundLaws.{used-is, union-usable}
 use Rattle.sets.specs.LoopLaws.{union-start, union-end}
 use Rattle.sets.specs.Sets.{bit, unionBelow}
 use Rattle.model.specs.Book.{usable}

@@ -3,7 +3,7 @@ use native.Mathlib.Omega.{arith}
 use Prim.Native.Nat.{_≤_, _-_}
 use Rattle.sets.specs.LoopLaws.{collect-start, collect-hit, collect-miss}
 use Rattle.query_replies.specs.Found.{usesAt}
-use Rattle.query_replies.specs.FoundLaws.{collect-end, uses-is}
+use Rattle.query_sets.specs.FoundLaws.{collect-end, uses-is}
 use Rattle.sets.specs.Sets as sets′
 use Rattle.sets.specs.Sets.{bit}
 use Rattle.book.specs.Plain.{systemsOf}

@@ -1,5 +1,5 @@
 use Rattle.read_tokens.specs.ProductionLaws.{there-inside}
-use Rattle.read_tokens.specs.ChoiceLaws.{choice-none, choice-wrong, choice-is}
+use Rattle.read_command.specs.ChoiceLaws.{choice-none, choice-wrong, choice-is}
 use borrow.Author.Needs.{needs}
 use Rattle.read_command.proofs.read_choice.Statement.{statement}
 use Rattle.read_command.proofs.read_choice.Tie as tie

@@ -1,4 +1,4 @@
-use Rattle.read_tokens.specs.WordLaws.{one-said}
+use Rattle.read_command.specs.WordLaws.{one-said}
 use borrow.Author.Needs.{needs}
 use Rattle.read_command.proofs.read_one.Statement.{statement}
 use Rattle.read_command.proofs.read_one.Tie as tie

@@ -1,5 +1,5 @@
 use Rattle.read_tokens.specs.ProductionLaws.{there-inside}
-use Rattle.read_tokens.specs.WordLaws.{said-no-name, said-no-point, said-no-version, pair-said}
+use Rattle.read_command.specs.WordLaws.{said-no-name, said-no-point, said-no-version, pair-said}
 use borrow.Author.Needs.{needs}
 use Rattle.read_command.proofs.read_pair.Statement.{statement}
 use Rattle.read_command.proofs.read_pair.Tie as tie

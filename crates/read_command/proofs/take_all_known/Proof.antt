@@ -1,6 +1,6 @@
 use Rattle.read_tokens.specs.ListLaws.{leads-start, leads-wrong, leads-inside, leads-last, leads-less, leads-on}
 use Rattle.read_tokens.specs.Steps.{Leads}
-use Rattle.read_tokens.specs.Choices.{KnownStep}
+use Rattle.read_command.specs.Choices.{KnownStep}
 use Rattle.text_laws.specs.Takes.{name-takes}
 use Rattle.text.specs.Language.{comma, name}
 use Rattle.sets.specs.Sets.{bit}

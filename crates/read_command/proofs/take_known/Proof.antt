@@ -1,4 +1,4 @@
-use Rattle.read_tokens.specs.ChoiceLaws.{known-small, known-not, known-at}
+use Rattle.read_command.specs.ChoiceLaws.{known-small, known-not, known-at}
 use Rattle.read_tokens.specs.TakeLaws.{no-answer, part-span, name-short}
 use borrow.Author.Needs.{needs}
 use Rattle.read_command.proofs.take_known.Statement.{statement}

@@ -1,6 +1,6 @@
 use Rattle.read_tokens.specs.TakeLaws.{kept-same}
 use Rattle.read_tokens.specs.ProductionLaws.{there-inside}
-use Rattle.read_tokens.specs.SpecRequestLaws.{spec-no-name, spec-no-provides, spec-no-provided, spec-no-body, spec-asked}
+use Rattle.read_spec.specs.SpecRequestLaws.{spec-no-name, spec-no-provides, spec-no-provided, spec-no-body, spec-asked}
 use borrow.Author.Needs.{needs}
 use Rattle.read_spec.proofs.read_spec.Statement.{statement}
 use Rattle.read_spec.proofs.read_spec.Tie as tie

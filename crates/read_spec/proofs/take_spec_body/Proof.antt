@@ -1,5 +1,5 @@
 use Rattle.read_tokens.specs.ProductionLaws.{there-inside}
-use Rattle.read_tokens.specs.SpecLaws.{spec-body-stops, spec-body-taken}
+use Rattle.read_spec.specs.SpecLaws.{spec-body-stops, spec-body-taken}
 use borrow.Author.Needs.{needs}
 use Rattle.read_spec.proofs.take_spec_body.Statement.{statement}
 use Rattle.read_spec.proofs.take_spec_body.Tie as tie

@@ -1,4 +1,4 @@
-use Rattle.read_tokens.specs.MemberLaws.{member-start}
+use Rattle.read_sys.specs.MemberLaws.{member-start}
 use borrow.Author.Needs.{needs}
 use Rattle.read_sys.proofs.no_named_members.Statement.{statement}
 use Rattle.read_sys.proofs.no_named_members.Tie as tie

@@ -1,4 +1,4 @@
-use Rattle.read_tokens.specs.SysRequestLaws.{sys-start}
+use Rattle.read_sys.specs.SysRequestLaws.{sys-start}
 use borrow.Author.Needs.{needs}
 use Rattle.read_sys.proofs.no_sys_versions.Statement.{statement}
 use Rattle.read_sys.proofs.no_sys_versions.Tie as tie

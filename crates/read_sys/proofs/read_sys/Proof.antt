@@ -1,6 +1,6 @@
 use Rattle.read_tokens.specs.TakeLaws.{kept-same}
 use Rattle.read_tokens.specs.ProductionLaws.{there-inside}
-use Rattle.read_tokens.specs.SysRequestLaws.{sys-no-name, sys-no-use, sys-no-usable, sys-no-mark, sys-no-versions, sys-no-end, sys-asked}
+use Rattle.read_sys.specs.SysRequestLaws.{sys-no-name, sys-no-use, sys-no-usable, sys-no-mark, sys-no-versions, sys-no-end, sys-asked}
 use borrow.Author.Needs.{needs}
 use Rattle.read_sys.proofs.read_sys.Statement.{statement}
 use Rattle.read_sys.proofs.read_sys.Tie as tie

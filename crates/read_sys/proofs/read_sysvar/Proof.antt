@@ -1,6 +1,6 @@
 use Rattle.read_tokens.specs.TakeLaws.{kept-same}
 use Rattle.read_tokens.specs.ProductionLaws.{there-inside}
-use Rattle.read_tokens.specs.SysvarLaws.{sysvar-no-pair, sysvar-no-mark, sysvar-no-members, sysvar-no-end, sysvar-asked}
+use Rattle.read_sys.specs.SysvarLaws.{sysvar-no-pair, sysvar-no-mark, sysvar-no-members, sysvar-no-end, sysvar-asked}
 use borrow.Author.Needs.{needs}
 use Rattle.read_sys.proofs.read_sysvar.Statement.{statement}
 use Rattle.read_sys.proofs.read_sysvar.Tie as tie

@@ -1,5 +1,5 @@
 use Rattle.read_tokens.specs.ProductionLaws.{there-inside, pass-inside}
-use Rattle.read_tokens.specs.MemberLaws.{member-no-name, member-no-version, member-alone, member-taken}
+use Rattle.read_sys.specs.MemberLaws.{member-no-name, member-no-version, member-alone, member-taken}
 use borrow.Author.Needs.{needs}
 use Rattle.read_sys.proofs.take_member.Statement.{statement}
 use Rattle.read_sys.proofs.take_member.Tie as tie

@@ -1,5 +1,5 @@
 use borrow.Author.Needs.{needs}
-use Rattle.read_tokens.specs.MemberSteps.{MemberStep, memberState}
+use Rattle.read_sys.specs.MemberSteps.{MemberStep, memberState}
 use Rattle.text_laws.specs.Takes.{compo-takes}
 use Rattle.text.specs.Language.{comma, compo}
 use Rattle.model.specs.Book.{components, versions}

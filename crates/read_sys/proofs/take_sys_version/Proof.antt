@@ -1,7 +1,7 @@
 use mathlib.Core.Path.{refl}
 use Rattle.read_tokens.specs.TakeLaws.{kept-same}
 use Rattle.read_tokens.specs.ProductionLaws.{there-inside}
-use Rattle.read_tokens.specs.SysLaws.{sys-version-no-name, sys-version-no-mark, sys-version-no-members, sys-version-taken}
+use Rattle.read_sys.specs.SysLaws.{sys-version-no-name, sys-version-no-mark, sys-version-no-members, sys-version-taken}
 use borrow.Author.Needs.{needs}
 use Rattle.read_sys.proofs.take_sys_version.Statement.{statement}
 use Rattle.read_sys.proofs.take_sys_version.Tie as tie

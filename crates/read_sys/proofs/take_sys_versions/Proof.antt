@@ -1,5 +1,5 @@
 use borrow.Author.Needs.{needs}
-use Rattle.read_tokens.specs.SysSteps.{SysStep, sysState}
+use Rattle.read_sys.specs.SysSteps.{SysStep, sysState}
 use Rattle.text_laws.specs.Takes.{sysVersion-takes}
 use Rattle.text.specs.Language.{semicolon, sysVersion}
 use Rattle.model.specs.Book.{components, versions}

@@ -1,4 +1,4 @@
-use Rattle.read_tokens.specs.SysLaws.{usable-taken}
+use Rattle.read_sys.specs.SysLaws.{usable-taken}
 use Rattle.read_tokens.specs.TakeLaws.{no-answer}
 use borrow.Author.Needs.{needs}
 use Rattle.read_sys.proofs.take_usable.Statement.{statement}

@@ -1,5 +1,5 @@
 use borrow.Author.Needs.{needs}
-use Rattle.read_tokens.specs.SysSteps.{UsableStep}
+use Rattle.read_sys.specs.SysSteps.{UsableStep}
 use Rattle.text_laws.specs.Takes.{name-takes}
 use Rattle.text.specs.Language.{comma, name}
 use Rattle.command_lists.specs.Views.{usableView}

@@ -1,7 +1,7 @@
 use borrow.Author.Needs.{needs}
 use Rattle.session_rows.specs.Asked.{queryOf}
 use Rattle.session_rows.specs.AskedLaws.{component-kind}
-use Rattle.session_rows.specs.declared.OfComponent.the-variants.{Supplies, Standard, WhereUsed}
+use Rattle.read_command.specs.declared.OfComponent.the-variants.{Supplies, Standard, WhereUsed}
 use Rattle.session_ask_component.proofs.put_of_component.Statement.{statement}
 use Rattle.session_ask_component.proofs.put_of_component.Tie as tie
 

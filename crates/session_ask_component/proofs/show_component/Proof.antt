@@ -1,6 +1,6 @@
 use borrow.Author.Needs.{needs}
 use Rattle.read_tokens.specs.TakeLaws.{no-answer}
-use Rattle.session_rows.specs.Asked.{askedOf}
+use Rattle.read_command.specs.Forms.{askedOf}
 use Rattle.session_rows.specs.AskedLaws.{one-answers, one-short, one-span}
 use Rattle.session_state.specs.CarriedLaws.{unread, was-read}
 use Rattle.session_ask_component.proofs.show_component.Statement.{statement}

@@ -1,7 +1,7 @@
 use borrow.Author.Needs.{needs}
 use Rattle.session_rows.specs.Asked.{queryOfVersion}
 use Rattle.session_rows.specs.AskedLaws.{version-kind}
-use Rattle.session_rows.specs.declared.OfVersion.the-variants.{Needs, Parts}
+use Rattle.read_command.specs.declared.OfVersion.the-variants.{Needs, Parts}
 use Rattle.session_ask_version.proofs.put_of_version.Statement.{statement}
 use Rattle.session_ask_version.proofs.put_of_version.Tie as tie
 

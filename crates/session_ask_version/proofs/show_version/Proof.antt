@@ -1,6 +1,6 @@
 use borrow.Author.Needs.{needs}
 use Rattle.read_tokens.specs.TakeLaws.{no-answer}
-use Rattle.session_rows.specs.Asked.{askedOfVersion}
+use Rattle.read_command.specs.Forms.{askedOfVersion}
 use Rattle.session_rows.specs.AskedLaws.{pair-answers, pair-component, pair-short, pair-version}
 use Rattle.session_state.specs.CarriedLaws.{unread, was-read}
 use Rattle.session_ask_version.proofs.show_version.Statement.{statement}

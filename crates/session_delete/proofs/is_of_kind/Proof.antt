@@ -1,6 +1,6 @@
 use mathlib.Core.Path.{_∙_, ap, sym}
 use Rattle.session_delete.specs.Removed.{isOfKind}
-use Rattle.session_delete.specs.declared.Version.{Version}
+use Rattle.read_command.specs.declared.Version.{Version}
 use Rattle.book.specs.Plain.{plainOf}
 use borrow.Author.Needs.{needs}
 use Rattle.session_delete.proofs.is_of_kind.Statement.{statement}

@@ -1,4 +1,4 @@
-use Rattle.read_tokens.specs.ChoiceLaws.{lookup-is}
+use Rattle.read_command.specs.ChoiceLaws.{lookup-is}
 use Rattle.read_tokens.specs.TakeLaws.{part-is}
 use borrow.Author.Needs.{needs}
 use Rattle.session_delete.proofs.place_of.Statement.{statement}

@@ -1,6 +1,6 @@
 use mathlib.Core.Path.{ap, sym}
 use Rattle.session_delete.specs.Removed.{componentCommand}
-use Rattle.session_delete.specs.declared.Component.{Component}
+use Rattle.read_command.specs.declared.Component.{Component}
 use Rattle.session_delete.specs.KeepLaws.{called-as}
 use borrow.Author.Needs.{needs}
 use Rattle.session_delete.proofs.take_out.Statement.{statement}

@@ -1,6 +1,6 @@
 use mathlib.Core.Path.{ap, sym}
 use Rattle.session_delete.specs.Removed.{versionCommand}
-use Rattle.session_delete.specs.declared.Version.{Version}
+use Rattle.read_command.specs.declared.Version.{Version}
 use Rattle.session_delete.specs.KeepLaws.{called-as}
 use borrow.Author.Needs.{needs}
 use Rattle.session_delete.proofs.take_version_out.Statement.{statement}

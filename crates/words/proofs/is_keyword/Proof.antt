@@ -1,3 +1,4 @@
+use Rattle.words.specs.Keywords.{keywordCount}
 use borrow.Author.Needs.{needs}
 use mathlib.Core.Path.{refl}
 use Rattle.sets.specs.Tests.{_≤?_, if_then_else_}
@@ -12,7 +13,7 @@ holds-requires c κs = (refl, c .before .before .pre)
 
 returns : tie.Need-returns
 returns c =
-    held-at 28 _ _ _ _ (c .before .before .before .pre .0) (c .holds .ensures) keywords
+    held-at keywordCount _ _ _ _ (c .before .before .before .pre .0) (c .holds .ensures) keywords
     (unfold tableOf upToLast before nameIn if_then_else_ _≤?_ keywords bytes in refl)
 
 pub is-keyword-spec : {M : Type 1} → statement M

@@ -3,8 +3,8 @@ use Prim.Native.Nat.{_≤_, _-_}
 use mathlib.Core.Path.{_≡_}
 use Rattle.sets.specs.Sets.{bit, below}
 use Rattle.book.specs.Plain.{plainOf}
-use Rattle.write_bytes.specs.Lines.{hasLine}
-use Rattle.write_bytes.specs.ComponentLaws.{set-end, set-start, set-turn}
+use Rattle.write_line.specs.Lines.{hasLine}
+use Rattle.write_line.specs.ComponentLaws.{set-end, set-start, set-turn}
 use Rattle.write_book.proofs.components_of.Statement.{statement}
 use Rattle.write_book.proofs.components_of.Tie as tie
 

@@ -1,6 +1,6 @@
 use borrow.Author.Needs.{needs}
-use Rattle.write_bytes.specs.ComponentLaws.{has-as}
-use Rattle.write_bytes.specs.Lines.{hasLine}
+use Rattle.write_line.specs.ComponentLaws.{has-as}
+use Rattle.write_line.specs.Lines.{hasLine}
 use Rattle.write_book.proofs.has_line.Statement.{statement}
 use Rattle.write_book.proofs.has_line.Tie as tie
 

@@ -1,6 +1,6 @@
 use borrow.Author.Needs.{needs}
 use Rattle.sets.specs.Tests.{_&_, ~_}
-use Rattle.write_bytes.specs.SystemLaws.{is-next}
+use Rattle.write_book.specs.SystemLaws.{is-next}
 use Rattle.write_book.proofs.is_next.Statement.{statement}
 use Rattle.write_book.proofs.is_next.Tie as tie
 

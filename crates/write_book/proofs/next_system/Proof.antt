@@ -8,8 +8,8 @@ use Rattle.book.specs.Plain.{systemsOf}
 use Rattle.text.specs.Written.{byName, firstOf}
 use Rattle.write_bytes.specs.ByName.{firstByName}
 use Rattle.write_bytes.specs.ByNameLaws.{fewer}
-use Rattle.write_bytes.specs.Lines.{isNext}
-use Rattle.write_bytes.specs.SystemLaws.{next-found, next-none, next-not}
+use Rattle.write_line.specs.Lines.{isNext}
+use Rattle.write_book.specs.SystemLaws.{next-found, next-none, next-not}
 use Rattle.write_book.proofs.next_system.Statement.{statement}
 use Rattle.write_book.proofs.next_system.Tie as tie
 

@@ -7,11 +7,11 @@ use Rattle.sets.specs.Tests.{_<?_}
 use Rattle.names.specs.Stored.{tableOf, tablesOf}
 use Rattle.text.specs.Bytes.{bytes}
 use Rattle.text.specs.Written.{byName}
-use Rattle.write_bytes.specs.ListedLaws.{Listing, listing-end, listing-keeps, listing-less, listing-start, listing-turn}
+use Rattle.write_version.specs.ListedLaws.{Listing, listing-end, listing-keeps, listing-less, listing-start, listing-turn}
 use mathlib.Core.List.{[]}
 use Rattle.book.specs.Plain.{plainOf}
-use Rattle.write_bytes.specs.Lines.{lineOf}
-use Rattle.write_bytes.specs.ComponentLaws.{nothing-between}
+use Rattle.write_line.specs.Lines.{lineOf}
+use Rattle.write_line.specs.ComponentLaws.{nothing-between}
 use Rattle.write_book.proofs.put_lines.Statement.{statement}
 use Rattle.write_book.proofs.put_lines.Tie as tie
 

@@ -4,9 +4,9 @@ use Rattle.sets.specs.Sets.{bit}
 use Rattle.names.specs.Stored.{tableOf, tablesOf}
 use Rattle.book.specs.Plain.{plainOf, systemsOf}
 use Rattle.text.specs.Written.{systemsInOrder}
-use Rattle.write_bytes.specs.Lines.{lineOf, systemLines}
-use Rattle.write_bytes.specs.SystemLaws.{InOrder, order-end, order-keeps, order-start, order-stop, order-turn}
-use Rattle.write_bytes.specs.declared.Kind.the-variants.{System}
+use Rattle.write_line.specs.Lines.{lineOf, systemLines}
+use Rattle.write_book.specs.SystemLaws.{InOrder, order-end, order-keeps, order-start, order-stop, order-turn}
+use Rattle.write_version.specs.declared.Kind.the-variants.{System}
 use Rattle.write_book.proofs.put_systems.Statement.{statement}
 use Rattle.write_book.proofs.put_systems.Tie as tie
 

@@ -1,7 +1,7 @@
 use borrow.Author.Needs.{needs}
 use mathlib.Core.Path.{_∙_}
-use Rattle.write_bytes.specs.Lines.{hasLine}
-use Rattle.write_bytes.specs.TextLaws.{text-is}
+use Rattle.write_line.specs.Lines.{hasLine}
+use Rattle.write_book.specs.TextLaws.{text-is}
 use Rattle.write_book.proofs.put_text.Statement.{statement}
 use Rattle.write_book.proofs.put_text.Tie as tie
 

@@ -1,5 +1,5 @@
 use borrow.Author.Needs.{needs}
-use Rattle.write_bytes.specs.ComponentLaws.{is-with, not-with}
+use Rattle.write_line.specs.ComponentLaws.{is-with, not-with}
 use Rattle.write_book.proofs.with_if.Statement.{statement}
 use Rattle.write_book.proofs.with_if.Tie as tie
 

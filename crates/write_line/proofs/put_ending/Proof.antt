@@ -1,6 +1,6 @@
 use borrow.Author.Needs.{needs}
 use Rattle.text.specs.Bytes.{bytes}
-use Rattle.write_bytes.specs.LineLaws.{ending-is}
+use Rattle.write_line.specs.LineLaws.{ending-is}
 use Rattle.write_line.proofs.put_ending.Statement.{statement}
 use Rattle.write_line.proofs.put_ending.Tie as tie
 

@@ -1,6 +1,6 @@
 use borrow.Author.Needs.{needs}
-use Rattle.write_bytes.specs.ComponentLaws.{line-as}
-use Rattle.write_bytes.specs.Lines.{lineOf}
+use Rattle.write_line.specs.ComponentLaws.{line-as}
+use Rattle.write_line.specs.Lines.{lineOf}
 use Rattle.write_line.proofs.put_line.Statement.{statement}
 use Rattle.write_line.proofs.put_line.Tie as tie
 

@@ -1,6 +1,6 @@
 use borrow.Author.Needs.{needs}
 use Rattle.text.specs.Bytes.{bytes}
-use Rattle.write_bytes.specs.LineLaws.{mod-line-is}
+use Rattle.write_line.specs.LineLaws.{mod-line-is}
 use Rattle.write_line.proofs.put_mod_line.Statement.{statement}
 use Rattle.write_line.proofs.put_mod_line.Tie as tie
 

@@ -1,7 +1,7 @@
 use borrow.Author.Needs.{needs}
 use mathlib.Core.Path.{_∙_}
 use Rattle.text.specs.Bytes.{bytes}
-use Rattle.write_bytes.specs.LineLaws.{spec-line-is}
+use Rattle.write_line.specs.LineLaws.{spec-line-is}
 use Rattle.write_line.proofs.put_spec_line.Statement.{statement}
 use Rattle.write_line.proofs.put_spec_line.Tie as tie
 

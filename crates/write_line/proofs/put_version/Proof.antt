@@ -1,5 +1,5 @@
 use borrow.Author.Needs.{needs}
-use Rattle.write_bytes.specs.PieceLaws.{mod-version, spec-version, sys-version}
+use Rattle.write_version.specs.PieceLaws.{mod-version, spec-version, sys-version}
 use Rattle.write_line.proofs.put_version.Statement.{statement}
 use Rattle.write_line.proofs.put_version.Tie as tie
 

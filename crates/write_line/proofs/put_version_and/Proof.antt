@@ -1,6 +1,6 @@
 use borrow.Author.Needs.{needs}
 use Rattle.text.specs.Bytes.{bytes}
-use Rattle.write_bytes.specs.PieceLaws.{version-and}
+use Rattle.write_version.specs.PieceLaws.{version-and}
 use Rattle.write_line.proofs.put_version_and.Statement.{statement}
 use Rattle.write_line.proofs.put_version_and.Tie as tie
 

@@ -7,9 +7,9 @@ use Rattle.sets.specs.Tests.{_<?_}
 use Rattle.names.specs.Stored.{tableOf, tablesOf}
 use Rattle.text.specs.Bytes.{bytes}
 use Rattle.text.specs.Written.{byName}
-use Rattle.write_bytes.specs.ListedLaws.{Listing, listing-end, listing-keeps, listing-less, listing-start, listing-turn}
+use Rattle.write_version.specs.ListedLaws.{Listing, listing-end, listing-keeps, listing-less, listing-start, listing-turn}
 use Rattle.book.specs.Plain.{plainOf}
-use Rattle.write_bytes.specs.Pieces.{versionOf}
+use Rattle.write_version.specs.Pieces.{versionOf}
 use Rattle.write_line.proofs.put_versions.Statement.{statement}
 use Rattle.write_line.proofs.put_versions.Tie as tie
 

@@ -1,5 +1,5 @@
 use borrow.Author.Needs.{needs}
-use Rattle.write_bytes.specs.LineLaws.{asked, not-asked}
+use Rattle.write_line.specs.LineLaws.{asked, not-asked}
 use Rattle.write_line.proofs.versions_if.Statement.{statement}
 use Rattle.write_line.proofs.versions_if.Tie as tie
 

@@ -1,5 +1,5 @@
 use borrow.Author.Needs.{needs}
-use Rattle.write_bytes.specs.LineLaws.{versions-of-module, versions-of-spec, versions-of-system}
+use Rattle.write_line.specs.LineLaws.{versions-of-module, versions-of-spec, versions-of-system}
 use Rattle.write_line.proofs.versions_in.Statement.{statement}
 use Rattle.write_line.proofs.versions_in.Tie as tie
 

@@ -1,6 +1,6 @@
 use borrow.Author.Needs.{needs}
 use Rattle.text.specs.Bytes.{bytes}
-use Rattle.write_bytes.specs.PieceLaws.{name-and}
+use Rattle.write_version.specs.PieceLaws.{name-and}
 use Rattle.write_version.proofs.put_listed.Statement.{statement}
 use Rattle.write_version.proofs.put_listed.Tie as tie
 

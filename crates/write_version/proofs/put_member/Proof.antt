@@ -1,6 +1,6 @@
 use borrow.Author.Needs.{needs}
 use Rattle.text.specs.Bytes.{bytes}
-use Rattle.write_bytes.specs.PieceLaws.{member-is}
+use Rattle.write_version.specs.PieceLaws.{member-is}
 use Rattle.write_version.proofs.put_member.Statement.{statement}
 use Rattle.write_version.proofs.put_member.Tie as tie
 

@@ -7,9 +7,9 @@ use Rattle.sets.specs.Tests.{_<?_}
 use Rattle.names.specs.Stored.{tableOf, tablesOf}
 use Rattle.text.specs.Bytes.{bytes}
 use Rattle.text.specs.Written.{byName}
-use Rattle.write_bytes.specs.ListedLaws.{Listing, listing-end, listing-in, listing-keeps, listing-less, listing-start, listing-turn}
+use Rattle.write_version.specs.ListedLaws.{Listing, listing-end, listing-in, listing-keeps, listing-less, listing-start, listing-turn}
 use Rattle.book.specs.Plain.{plainOf}
-use Rattle.write_bytes.specs.Pieces.{memberText}
+use Rattle.write_version.specs.Pieces.{memberText}
 use Rattle.write_version.proofs.put_members.Statement.{statement}
 use Rattle.write_version.proofs.put_members.Tie as tie
 

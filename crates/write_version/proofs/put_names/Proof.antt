@@ -6,9 +6,9 @@ use Rattle.sets.specs.Tests.{_<?_}
 use Rattle.names.specs.Stored.{tableOf, tablesOf}
 use Rattle.text.specs.Bytes.{bytes}
 use Rattle.text.specs.Written.{byName}
-use Rattle.write_bytes.specs.ListedLaws.{Listing, listing-end, listing-keeps, listing-less, listing-start, listing-turn}
+use Rattle.write_version.specs.ListedLaws.{Listing, listing-end, listing-keeps, listing-less, listing-start, listing-turn}
 use Rattle.text.specs.Tables.{nameAt}
-use Rattle.write_bytes.specs.Pieces.{namesOf}
+use Rattle.write_version.specs.Pieces.{namesOf}
 use Rattle.write_version.proofs.put_names.Statement.{statement}
 use Rattle.write_version.proofs.put_names.Tie as tie
 

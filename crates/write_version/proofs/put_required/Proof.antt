@@ -1,7 +1,7 @@
 use borrow.Author.Needs.{needs}
 use Rattle.sets.specs.Tests.{_<?_}
 use Rattle.text.specs.Bytes.{bytes}
-use Rattle.write_bytes.specs.PieceLaws.{required-is}
+use Rattle.write_version.specs.PieceLaws.{required-is}
 use Rattle.write_version.proofs.put_required.Statement.{statement}
 use Rattle.write_version.proofs.put_required.Tie as tie
 

@@ -1,6 +1,6 @@
 use borrow.Author.Needs.{needs}
 use Rattle.text.specs.Bytes.{bytes}
-use Rattle.write_bytes.specs.PieceLaws.{spec-version-is}
+use Rattle.write_version.specs.PieceLaws.{spec-version-is}
 use Rattle.write_version.proofs.put_spec_version.Statement.{statement}
 use Rattle.write_version.proofs.put_spec_version.Tie as tie
 

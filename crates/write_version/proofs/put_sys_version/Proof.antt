@@ -1,6 +1,6 @@
 use borrow.Author.Needs.{needs}
 use Rattle.text.specs.Bytes.{bytes}
-use Rattle.write_bytes.specs.PieceLaws.{sys-version-is}
+use Rattle.write_version.specs.PieceLaws.{sys-version-is}
 use Rattle.write_version.proofs.put_sys_version.Statement.{statement}
 use Rattle.write_version.proofs.put_sys_version.Tie as tie
 

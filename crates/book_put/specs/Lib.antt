@@ -1,0 +1,2 @@
+pub mod SpecLaws
+pub mod SystemLaws

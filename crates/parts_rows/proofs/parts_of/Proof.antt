@@ -1,8 +1,0 @@
-use Rattle.parts_rows.specs.MarkLaws.{closed-start, marks-are}
-use Rattle.parts_rows.proofs.parts_of.Statement.{statement}
-use Rattle.parts_rows.proofs.parts_of.Tie as tie
-
-pub parts-of-spec : {M : Type 1} → statement M
-parts-of-spec = tie.close
-    (tie.spec (λ c κs. (c .before .pre .0, (c .before .pre .1 .0, closed-start _)))
-    (λ c. marks-are _ _ _ _ (c .before .before .pre .1 .0) (c .before .before .pre .1 .1) (c .mark .ensures)))

@@ -1,0 +1,3 @@
+pub mod ListedLaws
+pub mod Pieces
+pub mod PieceLaws

@@ -1,5 +1,5 @@
 #!/usr/bin/env bash
-# Each name in docs/CLAIMS.md stands in the file that its row gives, and each must-fail edit named there exists.
+# Each name in docs/CLAIMS.md stands in the file that its row gives, each must-fail edit named there exists, and each of the gate's is named.
 set -euo pipefail
 cd "$(dirname "$0")/.."
 passed=0
@@ -25,6 +25,9 @@ while IFS='|' read -r _ _ names file _; do
 done < docs/CLAIMS.md
 for edit in $(grep -oE '(crates/[a-z_]+/must-fail|tests/edits/[a-z_]+)/[a-z_0-9]+\.edit' docs/CLAIMS.md | sort -u); do
     check test -f "$edit"
+done
+for edit in crates/*/must-fail/*.edit; do
+    check grep -qF -- "$edit" docs/CLAIMS.md
 done
 echo "$passed passed, $failed failed"
 [ "$failed" -eq 0 ]

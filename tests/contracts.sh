@@ -1,5 +1,6 @@
 #!/usr/bin/env bash
-# Every public function of every crate promises what comes back: it has an `ensures`; and docs/CLAIMS.md lists it with its crate.
+# Every public function of every crate promises what comes back: it has an `ensures`; and the list of them in docs/CLAIMS.md is the one that
+# tests/public-functions prints.
 set -euo pipefail
 cd "$(dirname "$0")/.."
 silent=$(find crates -path '*/src/*.rt' -print0 | sort -z | xargs -0 awk '
@@ -15,16 +16,9 @@ if [ -n "$silent" ]; then
     echo "0 passed, 1 failed"
     exit 1
 fi
-unlisted=$(for crate in crates/*; do
-    name=$(basename "$crate")
-    row=$(grep -F "| \`$name\` |" docs/CLAIMS.md || true)
-    for function in $(cat "$crate"/src/*.rt | grep -oE '^[[:space:]]*pub (extern "C" )?fn [a-z_0-9]+' | sed -E 's/.*fn //'); do
-        grep -qF "\`$function\`" <<< "$row" || echo "$name: $function"
-    done
-done)
-if [ -n "$unlisted" ]; then
-    echo "public functions that docs/CLAIMS.md does not list:"
-    echo "$unlisted"
+listed=$(sed -n '/^<!-- public functions, by /,/^<!-- end of public functions -->$/p' docs/CLAIMS.md)
+if ! diff <(grep '^|' <<< "$listed") <(tests/public-functions); then
+    echo "the list of public functions in docs/CLAIMS.md is not that of the code: run tests/public-functions --write"
     echo "0 passed, 1 failed"
     exit 1
 fi

@@ -34,13 +34,32 @@ head -c 1000000 < <(yes out) > "$folder/million.txt"
 echo 0,22 > "$folder/million.listing"
 check "a million bytes" prints "$folder/million.listing" "$folder/million.txt" "$program"
 
-# The script at the top, as the README calls it: on a file and on standard input.
+# The script at the top, as the README calls it: on a file and on standard input, silent where nothing is to be done. What it says while
+# crates are proved, and where one is not, is tried with an `rt` that only writes such lines.
 if [ -z "${SESSION:-}" ]; then
     lists() {
-        ./session "$1" | cmp -s - "${1%.txt}.listing"
+        ./session "$1" 2> "$folder/said" | cmp -s - "${1%.txt}.listing" && [ ! -s "$folder/said" ]
     }
     check "./session FILE" lists examples/teaching.txt
     check "./session < FILE" prints examples/teaching.listing examples/teaching.txt ./session
+
+    mkdir "$folder/bin"
+    stands_for_rt() {
+        printf '#!/bin/sh\nprintf "%%s\\n" "rt: sets proved (unchanged since it was last proved)" "rt: model %s"\nexit %s\n' "$1" "$2" > "$folder/bin/rt"
+        chmod +x "$folder/bin/rt"
+    }
+    says_how_far() {
+        stands_for_rt "proved (3 s)" 0
+        PATH=$folder/bin:$PATH lists examples/teaching.txt
+        grep -qE '^session: 2 of [0-9]+ crates proved: model \(3 s\)$' "$folder/said" && ! grep -q sets "$folder/said"
+    }
+    check "./session: how many crates are proved" says_how_far
+    says_what_failed() {
+        stands_for_rt "NOT PROVED (exit 1, 3 s)" 1
+        ! PATH=$folder/bin:$PATH ./session examples/teaching.txt > "$folder/listed" 2> "$folder/said" &&
+            [ ! -s "$folder/listed" ] && grep -q '^rt: model NOT PROVED' "$folder/said"
+    }
+    check "./session: a crate that is not proved" says_what_failed
 fi
 
 stack=$(sed -n 's/^#define SVCD_STACK \([0-9]*\)$/\1/p' include/svcd.h)

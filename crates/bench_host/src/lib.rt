@@ -33,8 +33,9 @@ pub extern "C" fn version_book_call<'a>(
     next_sets: &mut [u64; 576],
     next_numbers: &mut [u8; 8768],
 ) -> u8
-    ensures { λ r. ⌜ Called (now (sets .entry)) (now (numbers .entry)) (commandOf (callOf kind c v i set (now (usable .entry)) (now (versions .entry))
-        (now (lengths .entry)) (now (lengths .entry)) (now (members .entry)) (now (chosen .entry)) (now (required .entry)))) r (now («next_sets» .exit)) (now («next_numbers» .exit)) ⌝ }
+    ensures { λ r. ⌜ Called (now (sets .entry)) (now (numbers .entry))
+        (commandOf (callOf kind c v i set (now (usable .entry)) (now (versions .entry)) (now (lengths .entry)) (now (lengths .entry))
+        (now (members .entry)) (now (chosen .entry)) (now (required .entry)))) r (now («next_sets» .exit)) (now («next_numbers» .exit)) ⌝ }
 {
     let lent_sets = *sets;
     let lent_numbers = *numbers;

@@ -1,4 +1,5 @@
--- Demand 1: "A refused command gives one number from document 01 and changes neither the book nor a slice". Demand 2: its number is that of the plain book's first no.
+-- Demand 1: "A refused command gives one number from document 01 and changes neither the book nor a slice". Demand 2: its number is that of
+-- the plain book's first no.
 use mathlib.Core.Path.{_≡_, ap}
 use Prim.Native.Nat.{suc, zero, ℕ}
 use mathlib.Core.Path.{refl}

@@ -3,7 +3,8 @@ use mathlib.Core.List.{List, []}
 use mathlib.Core.Logic.{_≢_}
 use mathlib.Core.Path.{_∙_, _≡_, refl, subst, sym}
 use Prim.Native.Nat.{ℕ}
-use Rattle.command_outcome.specs.Calls.{Call, addMod, addModvar, addSpec, addSys, addSysvar, callOf, commandOf, delMod, delModvar, delSpec, delSys, delSysvar}
+use Rattle.command_outcome.specs.Calls.{Call, addMod, addModvar, addSpec, addSys, addSysvar, callOf, commandOf}
+use Rattle.command_outcome.specs.Calls.{delMod, delModvar, delSpec, delSys, delSysvar}
 use Rattle.command_outcome.specs.Outcome.{Called}
 use Rattle.sets.specs.TestLaws.{==-in, ==-not, if-false, if-true}
 use Rattle.sets.specs.Tests.{_==_, if_then_else_}

@@ -30,8 +30,9 @@ pub fn call<'a>(
     chosen: &'a [usize],
     required: &'a [u64],
 ) -> Outcome
-    ensures { λ r. ⌜ Called (b .sets) (b .numbers) (commandOf (callOf kind c v i set (now (usable .entry)) (now (versions .entry)) (now (implementations .entry))
-        (now (lengths .entry)) (now (members .entry)) (now (chosen .entry)) (now (required .entry)))) (r .answer) (r .book .sets) (r .book .numbers) ⌝ }
+    ensures { λ r. ⌜ Called (b .sets) (b .numbers)
+        (commandOf (callOf kind c v i set (now (usable .entry)) (now (versions .entry)) (now (implementations .entry)) (now (lengths .entry))
+        (now (members .entry)) (now (chosen .entry)) (now (required .entry)))) (r .answer) (r .book .sets) (r .book .numbers) ⌝ }
 {
     if kind == 0 {
         return commands::add_spec(b, c, set, versions, required, v);

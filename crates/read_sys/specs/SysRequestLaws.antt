@@ -27,7 +27,8 @@ use Rattle.read_tokens.specs.Entering.{Enters}
 use Rattle.read_tokens.specs.FacilityLaws.{singles-same}
 use Rattle.read_tokens.specs.FourLaws.{FourGrow, four-fits, four-tables}
 use Rattle.read_tokens.specs.Growth.{Grows, Longer, NumberedAll, foldOn}
-use Rattle.read_tokens.specs.GrowthLaws.{enters-longer, enters-number, grows-each, grows-none, grows-one, grows-then, longer-none, longer-same, longer-then, numbered-all}
+use Rattle.read_tokens.specs.GrowthLaws.{enters-longer, enters-number, grows-each, grows-none, grows-one}
+use Rattle.read_tokens.specs.GrowthLaws.{grows-then, longer-none, longer-same, longer-then, numbered-all}
 use Rattle.read_sys.specs.MemberLaws.{member-all, member-comps, member-vers, members-fold}
 use Rattle.read_sys.specs.MemberSteps.{memberStart}
 use Rattle.read_tokens.specs.ModLaws.{end-key}

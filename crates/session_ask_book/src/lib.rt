@@ -212,7 +212,8 @@ pub fn show_book<'a>(
     what: OfBook,
 ) -> Room
     requires { ⌜ Ready (now sets) (now numbers) (now comps) (now vers) (now facs) (now impls) ⌝ }
-    ensures { λ r. ⌜ Carried i (stateOf (now (sets .entry)) (now (numbers .entry)) (now (comps .entry)) (now (vers .entry)) (now (facs .entry)) (now (impls .entry)))
+    ensures { λ r. ⌜ Carried i
+        (stateOf (now (sets .entry)) (now (numbers .entry)) (now (comps .entry)) (now (vers .entry)) (now (facs .entry)) (now (impls .entry)))
         (stateOf (now (sets .entry)) (now (numbers .entry)) (now (comps .entry)) (now (vers .entry)) (now (facs .entry)) (now (impls .entry)))
         room r (now (out .entry)) (now (out .exit)) (askedOfBook what) ⌝ }
 {

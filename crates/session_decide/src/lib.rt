@@ -30,8 +30,14 @@ pub fn decide(
     requires { ⌜ Ready (now sets) (now numbers) (now comps) (now vers) (now facs) (now impls) ⌝ }
     requires { ⌜ at ≤ length (now text) ⌝ }
     ensures { λ r. ⌜ Ready (now (sets .exit)) (now (numbers .exit)) (now (comps .exit)) (now (vers .exit)) (now (facs .exit)) (now (impls .exit)) ⌝ }
-    ensures { λ r. ⌜ Answers (commandReader command) (Decides (stateOf (now (sets .entry)) (now (numbers .entry)) (now (comps .entry)) (now (vers .entry)) (now (facs .entry)) (now (impls .entry))) (stateOf (now (sets .exit)) (now (numbers .exit)) (now (comps .exit)) (now (vers .exit)) (now (facs .exit)) (now (impls .exit))) (r .answer)) (now (text .entry)) at (r .there) (r .end) ⌝ }
-    ensures { λ r. ⌜ Undecided at (stateOf (now (sets .entry)) (now (numbers .entry)) (now (comps .entry)) (now (vers .entry)) (now (facs .entry)) (now (impls .entry))) (stateOf (now (sets .exit)) (now (numbers .exit)) (now (comps .exit)) (now (vers .exit)) (now (facs .exit)) (now (impls .exit))) r ⌝ }
+    ensures { λ r. ⌜ Answers (commandReader command) (Decides
+        (stateOf (now (sets .entry)) (now (numbers .entry)) (now (comps .entry)) (now (vers .entry)) (now (facs .entry)) (now (impls .entry)))
+        (stateOf (now (sets .exit)) (now (numbers .exit)) (now (comps .exit)) (now (vers .exit)) (now (facs .exit)) (now (impls .exit)))
+        (r .answer)) (now (text .entry)) at (r .there) (r .end) ⌝ }
+    ensures { λ r. ⌜ Undecided at
+        (stateOf (now (sets .entry)) (now (numbers .entry)) (now (comps .entry)) (now (vers .entry)) (now (facs .entry)) (now (impls .entry)))
+        (stateOf (now (sets .exit)) (now (numbers .exit)) (now (comps .exit)) (now (vers .exit)) (now (facs .exit)) (now (impls .exit)))
+        r ⌝ }
 {
     match command {
         Command::AddSpec => add_spec(sets, numbers, comps, vers, facs, impls, text, at),

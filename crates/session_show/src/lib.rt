@@ -31,7 +31,8 @@ fn show_named<'a>(
 ) -> Shown
     requires { ⌜ Ready (now sets) (now numbers) (now comps) (now vers) (now facs) (now impls) ⌝ }
     requires { ⌜ at ≤ length (now text) ⌝ }
-    ensures { λ r. ⌜ Answers (namedReader named) (Carried i (stateOf (now (sets .entry)) (now (numbers .entry)) (now (comps .entry)) (now (vers .entry)) (now (facs .entry)) (now (impls .entry)))
+    ensures { λ r. ⌜ Answers (namedReader named) (Carried i
+        (stateOf (now (sets .entry)) (now (numbers .entry)) (now (comps .entry)) (now (vers .entry)) (now (facs .entry)) (now (impls .entry)))
         (stateOf (now (sets .entry)) (now (numbers .entry)) (now (comps .entry)) (now (vers .entry)) (now (facs .entry)) (now (impls .entry)))
         room (r .room) (now (out .entry)) (now (out .exit))) (now (text .entry)) at (r .there) (r .end) ⌝ }
     ensures { λ r. ⌜ Unread (r .there) at (r .end) room (r .room) (now (out .entry)) (now (out .exit)) ⌝ }
@@ -85,7 +86,8 @@ pub fn show<'a>(
 ) -> Shown
     requires { ⌜ Ready (now sets) (now numbers) (now comps) (now vers) (now facs) (now impls) ⌝ }
     requires { ⌜ at ≤ length (now text) ⌝ }
-    ensures { λ r. ⌜ Answers (queryReader query) (Carried i (stateOf (now (sets .entry)) (now (numbers .entry)) (now (comps .entry)) (now (vers .entry)) (now (facs .entry)) (now (impls .entry)))
+    ensures { λ r. ⌜ Answers (queryReader query) (Carried i
+        (stateOf (now (sets .entry)) (now (numbers .entry)) (now (comps .entry)) (now (vers .entry)) (now (facs .entry)) (now (impls .entry)))
         (stateOf (now (sets .entry)) (now (numbers .entry)) (now (comps .entry)) (now (vers .entry)) (now (facs .entry)) (now (impls .entry)))
         room (r .room) (now (out .entry)) (now (out .exit))) (now (text .entry)) at (r .there) (r .end) ⌝ }
     ensures { λ r. ⌜ Unread (r .there) at (r .end) room (r .room) (now (out .entry)) (now (out .exit)) ⌝ }

@@ -52,7 +52,10 @@ fn change(
     requires { ⌜ Ready (now sets) (now numbers) (now comps) (now vers) (now facs) (now impls) ⌝ }
     requires { ⌜ at ≤ length (now text) ⌝ }
     ensures { λ r. ⌜ Ready (now (sets .exit)) (now (numbers .exit)) (now (comps .exit)) (now (vers .exit)) (now (facs .exit)) (now (impls .exit)) ⌝ }
-    ensures { λ r. ⌜ Behind (commandReader command) i (now (text .entry)) at (stateOf (now (sets .entry)) (now (numbers .entry)) (now (comps .entry)) (now (vers .entry)) (now (facs .entry)) (now (impls .entry))) (stateOf (now (sets .exit)) (now (numbers .exit)) (now (comps .exit)) (now (vers .exit)) (now (facs .exit)) (now (impls .exit))) room (r .room) (now (out .entry)) (now (out .exit)) (r .more) (r .end) ⌝ }
+    ensures { λ r. ⌜ Behind (commandReader command) i (now (text .entry)) at
+        (stateOf (now (sets .entry)) (now (numbers .entry)) (now (comps .entry)) (now (vers .entry)) (now (facs .entry)) (now (impls .entry)))
+        (stateOf (now (sets .exit)) (now (numbers .exit)) (now (comps .exit)) (now (vers .exit)) (now (facs .exit)) (now (impls .exit)))
+        room (r .room) (now (out .entry)) (now (out .exit)) (r .more) (r .end) ⌝ }
 {
     let d = session_decide::decide(sets, numbers, comps, vers, facs, impls, text, at, command);
     if !d.there {
@@ -83,7 +86,10 @@ fn ask<'a>(
 ) -> Advance
     requires { ⌜ Ready (now sets) (now numbers) (now comps) (now vers) (now facs) (now impls) ⌝ }
     requires { ⌜ at ≤ length (now text) ⌝ }
-    ensures { λ r. ⌜ Behind (queryReader query) i (now (text .entry)) at (stateOf (now (sets .entry)) (now (numbers .entry)) (now (comps .entry)) (now (vers .entry)) (now (facs .entry)) (now (impls .entry))) (stateOf (now (sets .entry)) (now (numbers .entry)) (now (comps .entry)) (now (vers .entry)) (now (facs .entry)) (now (impls .entry))) room (r .room) (now (out .entry)) (now (out .exit)) (r .more) (r .end) ⌝ }
+    ensures { λ r. ⌜ Behind (queryReader query) i (now (text .entry)) at
+        (stateOf (now (sets .entry)) (now (numbers .entry)) (now (comps .entry)) (now (vers .entry)) (now (facs .entry)) (now (impls .entry)))
+        (stateOf (now (sets .entry)) (now (numbers .entry)) (now (comps .entry)) (now (vers .entry)) (now (facs .entry)) (now (impls .entry)))
+        room (r .room) (now (out .entry)) (now (out .exit)) (r .more) (r .end) ⌝ }
 {
     let s = session_show::show(
         out,
@@ -125,7 +131,10 @@ pub fn step(
 ) -> Advance
     requires { ⌜ Ready (now sets) (now numbers) (now comps) (now vers) (now facs) (now impls) ⌝ }
     ensures { λ r. ⌜ Ready (now (sets .exit)) (now (numbers .exit)) (now (comps .exit)) (now (vers .exit)) (now (facs .exit)) (now (impls .exit)) ⌝ }
-    ensures { λ r. ⌜ Stepped i (now (rest .entry)) (stateOf (now (sets .entry)) (now (numbers .entry)) (now (comps .entry)) (now (vers .entry)) (now (facs .entry)) (now (impls .entry))) (stateOf (now (sets .exit)) (now (numbers .exit)) (now (comps .exit)) (now (vers .exit)) (now (facs .exit)) (now (impls .exit))) room (r .room) (now (out .entry)) (now (out .exit)) (r .more) (r .end) ⌝ }
+    ensures { λ r. ⌜ Stepped i (now (rest .entry))
+        (stateOf (now (sets .entry)) (now (numbers .entry)) (now (comps .entry)) (now (vers .entry)) (now (facs .entry)) (now (impls .entry)))
+        (stateOf (now (sets .exit)) (now (numbers .exit)) (now (comps .exit)) (now (vers .exit)) (now (facs .exit)) (now (impls .exit)))
+        room (r .room) (now (out .entry)) (now (out .exit)) (r .more) (r .end) ⌝ }
 {
     let w = read_command::read_command(rest, 0);
     let e = w.end;

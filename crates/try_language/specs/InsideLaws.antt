@@ -31,6 +31,9 @@ none-inside t there e at h = record { is = λ y. clash y (h .0) }
 pub told-inside : (t : Text) (there there′ : Bool) (e e′ : ℕ) → Inside t there e → (there′ ≡ there) × (e′ ≡ e) → Inside t there′ e′
 told-inside t there there′ e e′ i h = record { is = λ y. (let l = i .is (sym (h .0) ∙ y) in let q = h .1 in omega arith) }
 
+pub none-told : (t : Text) (there there′ : Bool) (e e′ at : ℕ) → (there ≡ false) × (e ≡ at) → (there′ ≡ there) × (e′ ≡ e) → Inside t there′ e′
+none-told t there there′ e e′ at n h = told-inside t there there′ e e′ (none-inside t there e at n) h
+
 pub inside-there : (t : Text) (there : Bool) (e : ℕ) → Inside t there e → notᵇ there ≡ false → e ≤ length t
 inside-there t there e i n = i .is (not-false there n)
 

@@ -2,7 +2,8 @@ use borrow.Author.Needs.{needs}
 use mathlib.Core.Path.{_∙_, sym}
 use native.Mathlib.Omega.{arith}
 use Rattle.command_outcome.specs.OutcomeLaws.{accept, refuse-any}
-use Rattle.command_add.specs.AddLaws.{modvar-answers, modvar-component, modvar-holds, modvar-implementation, modvar-module, modvar-new, modvar-room, modvar-version}
+use Rattle.command_add.specs.AddLaws.{modvar-answers, modvar-component, modvar-holds, modvar-implementation}
+use Rattle.command_add.specs.AddLaws.{modvar-module, modvar-new, modvar-room, modvar-version}
 use Rattle.model_laws.specs.Good.{passes→good}
 use Rattle.book_rules.specs.TestLaws.{passes-proper, passes-plain}
 use Rattle.command_add.proofs.add_modvar_in.Statement.{statement}

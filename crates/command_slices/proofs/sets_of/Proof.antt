@@ -9,7 +9,8 @@ use Rattle.model.specs.Lists.{setOf}
 use Rattle.model.specs.Questions.{eachBelow}
 use Rattle.model.specs.Book.{facilities}
 use Rattle.command_lists.specs.Said.{always, facilitiesSaid, requirementsSaid, setsOf, setsStep}
-use Rattle.command_slices.specs.SliceLaws.{PairsLeft, pairs-start, pairs-turn, pairs-first, pairs-second, pairs-end, none-below, none-set, said-below, said-set}
+use Rattle.command_slices.specs.SliceLaws.{PairsLeft, pairs-start, pairs-turn, pairs-first, pairs-second}
+use Rattle.command_slices.specs.SliceLaws.{pairs-end, none-below, none-set, said-below, said-set}
 use Rattle.command_lists.specs.Views.{setsView}
 use Rattle.command_slices.proofs.sets_of.Statement.{statement}
 use Rattle.command_slices.proofs.sets_of.Tie as tie

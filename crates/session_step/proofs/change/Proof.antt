@@ -15,4 +15,6 @@ returns-2 c =
     (d .0, behind-decided (d .1 .0) (c .before .before .before .before .if1 .left) (c .before .before .put-answer-row .ensures))
 
 pub change-spec : {M : Type 1} → statement M
-change-spec = tie.close (tie.spec (λ c κs. search needs) (λ c κs. search needs) (λ c. search needs) returns (λ c κs. search needs) (λ c. search needs) returns-2)
+change-spec =
+    tie.close
+    (tie.spec (λ c κs. search needs) (λ c κs. search needs) (λ c. search needs) returns (λ c κs. search needs) (λ c. search needs) returns-2)

@@ -50,7 +50,7 @@ pub fn test(raw: &Raw) -> bool {
     unsafe { version_book_test(&raw.sets, &raw.numbers) }
 }
 
-/// What a call carries, in the form of `demand_3::call`.
+/// What a call carries, in the form of `version_book_call`.
 #[derive(Default)]
 pub struct Carried {
     kind: usize,

@@ -9,8 +9,9 @@ use Rattle.book.specs.Layout.{kindAt}
 use Rattle.book.specs.Plain.{modulesOf, plainOf, proper, properIf, specifiedAt, specsOf, systemsOf}
 use Rattle.book.specs.ReadLaws.{module-limits, spec-limits, specified-plain, system-limits}
 use Rattle.book.specs.Readers.{fresh-plain}
-use Rattle.model.specs.Book.{Book, Modules, Specs, Systems, composed, hasVersion, isSystem}
+use Rattle.model.specs.Book.{Book, Modules, Specs, Systems, composed, empty, hasVersion, isSystem, specified}
 use Rattle.model.specs.Limits.{Passes, oneToEight}
+use Rattle.model.specs.Maps.{isSome}
 use Rattle.model.specs.Rules.{B1, B1-to-B9, B1at, B2, B2at, B3, B3at, B4, B5, B5-to-B9, B5at, B6, B6at, B7, B7at, B8, B8at, B9}
 use Rattle.model.specs.Rules.{B9at, eachComposition, eachSpecified, eachSystem, p, r}
 use Rattle.book_rules.specs.CompositionLaws.{ifComposed, ofSystem, ruleAt}
@@ -19,11 +20,15 @@ use Rattle.book_rules.specs.Test.{passes}
 use Rattle.sets.specs.Sets.{Set, bit}
 use Rattle.sets.specs.TestLaws.{<?-in, ==-in, ==-not, ==-out, all-in, all-out, and-false, and-in, and-l, and-r, and-true, bool?}
 use Rattle.sets.specs.TestLaws.{clash, if-false, if-true, imp-in, not-in, not-out}
-use Rattle.sets.specs.Tests.{_&_, _==_, _⇒_, all, if_then_else_}
+use Rattle.sets.specs.Tests.{_&_, _==_, _⇒_, all, if_then_else_, ~_}
 use Rattle.model_laws.specs.Frame.{composed-system}
 use Rattle.model_laws.specs.Heights.{Sound}
 use Rattle.model_laws.specs.Parts.{rules→sound}
 use Rattle.model_laws.specs.Sequence.{empty-passes}
+
+none-specified : (c : ℕ) → unspecified (empty .specs) c ≡ true
+unfolding unspecified specified isSome ~_
+none-specified c = refl
 
 module _ (s n : List ℕ) where
   pub passes-proper : passes s n ≡ true → proper s n ≡ true
@@ -65,6 +70,10 @@ module _ (s n : List ℕ) where
 
       proper-none : proper s n ≡ true
       proper-none = unfold proper in all-in _ _ (λ c l. unfold properIf in imp-in _ _ (λ y. clash (==-in _ _ (zero-kind c l)) (not-out _ y)))
+
+  -- and so does every Book that means the empty book
+  pub empty-book-passes : plainOf s n ≡ empty → passes s n ≡ true
+  empty-book-passes e = none-passes (all-in 32 _ (λ c l. ap (λ (b : Book). unspecified (b .specs) c) e ∙ none-specified c))
 
   pub sound : B4 (systemsOf s n) ≡ true → B5 (specsOf s n) (systemsOf s n) ≡ true → Sound (systemsOf s n)
   sound b4 b5 = rules→sound (specsOf s n) (systemsOf s n) (system-limits s n b5) b4 b5

@@ -1,4 +1,5 @@
-pub mod NumberedLaws
-pub mod PartsCall
-pub mod EverySequence
 pub mod Demand
+pub mod NumberedLaws
+pub mod PartsLaws
+pub mod EverySequence
+pub mod DemandLaws

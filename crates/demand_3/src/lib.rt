@@ -1,15 +1,12 @@
 // The ten calls and the parts list as demand 3 speaks of them: each promises here what its own contract gives, and no more.
 ghost use mathlib.Core.Path.{_≡_};
 ghost use mathlib.Core.Bool.{true};
-ghost use Prim.Native.Nat.{_≤_};
-ghost use lib.ListN.{length};
 ghost use Rattle.book.specs.Plain.{plainOf};
 ghost use Rattle.model.specs.Book as model;
 ghost use Rattle.book_rules.specs.Test as test;
-ghost use Rattle.model_laws.specs.Notions.{howManyPairs};
 ghost use Rattle.command_outcome.specs.Calls.{callOf, commandOf};
 ghost use Rattle.command_outcome.specs.Outcome.{Called};
-ghost use Rattle.demand_3.specs.PartsCall.{RightlyListed};
+ghost use Rattle.demand_3.specs.Demand.{PartsGiven};
 use book::Book;
 use commands::Outcome;
 use parts::PartsList;
@@ -64,11 +61,10 @@ pub fn call<'a>(
     commands::del_sysvar(b, c, v)
 }
 
-// The parts list of a stored version, into a slice with a row for each version in the book.
+// The parts list of a version, into a slice: what demand 3 says of a version that is stored in a Book that passes the test for 25.
 pub fn listed(b: Book, c: usize, v: usize, out: &mut [u16]) -> PartsList
-    requires { ⌜ (test.passes (b .sets) (b .numbers) ≡ true) × (model.hasVersion (plainOf (b .sets) (b .numbers) .specs) c v ≡ true) ⌝ }
-    requires { ⌜ howManyPairs (plainOf (b .sets) (b .numbers)) ≤ length (now out) ⌝ }
-    ensures { λ r. ⌜ RightlyListed (b .sets) (b .numbers) c v (now (out .entry)) (r .answer) (r .rows) (r .depth) (now (out .exit)) ⌝ }
+    ensures { λ r. ⌜ (test.passes (b .sets) (b .numbers) ≡ true → model.hasVersion (plainOf (b .sets) (b .numbers) .specs) c v ≡ true
+        → PartsGiven (b .sets) (b .numbers) c v (now (out .entry)) (r .answer) (r .rows) (r .depth) (now (out .exit))) ⌝ }
 {
     parts::parts(b, c, v, out)
 }

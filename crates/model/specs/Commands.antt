@@ -8,7 +8,7 @@ use Rattle.model.specs.Lists.{beside, setOf}
 use Rattle.model.specs.Maps.{Map, change, optionMap, orElse, put}
 use Rattle.sets.specs.Sets.{Set}
 
--- Members with their versions, as a command gives them: `none` where "a composition may leave a member's version out".
+-- Members with their versions, as a command gives them; `none`: "A composition may leave a member's version out".
 abbrev pub Members : Type 0
 Members = List (ℕ × Option ℕ)
 

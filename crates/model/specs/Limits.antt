@@ -1,5 +1,5 @@
 -- The question for 25, of a book (document 01, "The questions, in order"): "Any call that takes a book: are its numbers below their
--- limits, has each specified component 1 to 8 different versions, and do B1 to B9 hold? no: 25"
+-- limits, has each specified component 1 to 8 different versions, and do B1 to B9 hold? .. no: 25"
 use mathlib.Core.Bool.{Bool, true}
 use mathlib.Core.Option.{some}
 use mathlib.Core.Path.{_≡_}

@@ -72,6 +72,8 @@ unfoldable pub firstNo : List Question → ℕ
 firstNo [] = 0
 firstNo (q ∷ qs) = let rest = firstNo qs in if q .1 then rest else q .0
 
+-- 25 is not among them. It comes first, and is asked of the Book that a call takes: `answered` (command_outcome), `repliedTo`
+-- (query_replies), `partsAnswer` (parts) and `textAnswer` (names_test) have it. A book that was reached always passes.
 unfoldable pub questions : Book → Command → List Question
 questions b (ADD-SPEC c ps vs s) =
     (1, inLimits (ADD-SPEC c ps vs s)) ∷

@@ -1,4 +1,4 @@
--- The teaching book (document 01, "The teaching book"): K1 to K12, "proved as one statement over this table".
+-- The teaching book (document 01, "The teaching book"): K1 to K12, "Proved as one statement over this table".
 use mathlib.Core.Bool.{true}
 use mathlib.Core.List.{List, [], _∷_, map}
 use mathlib.Core.Option.{none}

@@ -16,7 +16,7 @@ use Rattle.sets.specs.Tests.{_≤?_, if_then_else_}
 unfoldable pub rowNumber : Pair → ℕ
 rowNumber q = q .0 * 64 + q .1
 
--- "parts: does the result fit the lent slice? no: 22", after the other questions; the slice has room places
+-- "parts, text, session: does the result fit the lent slice? no: 22", after the other questions; the slice has room places
 unfoldable pub partsAsked : Book → ℕ → ℕ → ℕ → List Question
 partsAsked b c v room = asked b (PARTS c v) ++ (22, length (parts b c v) ≤? room) ∷ []
 

@@ -14,15 +14,13 @@ use Rattle.book.specs.Readers.{fresh-plain}
 use Rattle.read_tokens.specs.Entering.{Kept}
 use Rattle.write_bytes.specs.Room.{writtenIn}
 use Rattle.write_bytes.specs.declared.Room.{Room}
-use Rattle.model.specs.Book.{Book, empty, specified}
-use Rattle.model.specs.Maps.{isSome}
+use Rattle.model.specs.Book.{Book, empty}
 use Rattle.model.specs.Lists.{every, nonEmpty}
 use Rattle.names.specs.StoredLaws.{no-names, zeros-empty}
 use Rattle.book_rules.specs.Test as test
-use Rattle.book_rules.specs.RuleLaws.{unspecified}
-use Rattle.book_rules.specs.TestLaws.{none-passes}
-use Rattle.sets.specs.TestLaws.{and-false, all-in, and-true, bool?, fails, if-false, if-true, ≤?-in, ≤?-out}
-use Rattle.sets.specs.Tests.{_≤?_, ~_}
+use Rattle.book_rules.specs.TestLaws.{empty-book-passes}
+use Rattle.sets.specs.TestLaws.{and-false, and-true, bool?, fails, if-false, if-true, ≤?-in, ≤?-out}
+use Rattle.sets.specs.Tests.{_≤?_}
 use Rattle.seqs.specs.Filled.{filled}
 use Rattle.seqs.specs.FilledLaws.{filled-length}
 use Rattle.session_state.specs.State.{Ready, stateOf}
@@ -154,12 +152,8 @@ module _ (t : Text) (old : List ℕ) where
 zero-book : plainOf (replicate 576 0) (replicate 8768 0) ≡ empty
 zero-book = fresh-plain (replicate 576 0) (replicate 8768 0) (λ c l. getD-replicate 8768 c 0 0 (omega arith))
 
-none-specified : (c : ℕ) → unspecified (empty .specs) c ≡ true
-unfolding unspecified specified isSome ~_
-none-specified c = refl
-
 zero-passes : test.passes (replicate 576 0) (replicate 8768 0) ≡ true
-zero-passes = none-passes _ _ (all-in 32 _ (λ c l. ap (λ (b : Book). unspecified (b .specs) c) zero-book ∙ none-specified c))
+zero-passes = empty-book-passes _ _ zero-book
 
 zero-kept : (n m : ℕ) → m ≡ n * 33 → Kept n (replicate m 0)
 zero-kept n m e = record {

@@ -51,7 +51,7 @@ fn list(
 {
     clear_state(sets, numbers, comps, vers, facs, impls);
     let n = out.len();
-    let room = session_run::run(sets, numbers, comps, vers, facs, impls, text, out);
+    let room = session_run::run(text, sets, numbers, comps, vers, facs, impls, out);
     if !room.fits {
         clear_state(sets, numbers, comps, vers, facs, impls);
         seqs::clear(out);

@@ -1,0 +1,2 @@
+pub mod Lesson
+pub mod LessonLaws

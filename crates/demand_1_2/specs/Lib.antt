@@ -1,3 +1,12 @@
+pub mod Listing
+pub mod WholeLaws
+pub mod LimitLaws
 pub mod Refused
 pub mod Sessions
+pub mod ListingLaws
 pub mod ReadBack
+pub mod Verdict
+pub mod VerdictLaws
+pub mod PlainBooks25
+pub mod TeachingText
+pub mod Books25

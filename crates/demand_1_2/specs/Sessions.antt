@@ -24,7 +24,8 @@ use Rattle.text_laws.specs.SessionPasses.{session-passes, states-pass}
 use Rattle.model_laws.specs.PartsRight.{PartsRight}
 use Rattle.model_laws.specs.Sequence.{passes-parts}
 
-fresh-passes : PassesNamed fresh
+-- an empty session passes the question for 25
+pub fresh-passes : PassesNamed fresh
 unfolding sessionFrom
 fresh-passes = states-pass 0 []
 

@@ -23,3 +23,5 @@ pub mod Meaning
 pub mod WhereUsed
 pub mod PartsRight
 pub mod Sequence
+pub mod Printed
+pub mod PrintedLaws

@@ -8,14 +8,13 @@ use native.Mathlib.Omega.{arith}
 use lib.ListN.{length, take}
 use lib.Seq.{take-append-seam}
 use Rattle.book.specs.Plain.{proper}
-use Rattle.book_rules.specs.Test as test
 use Rattle.book_rules.specs.TestLaws.{passes-plain, passes-proper, plain-passes}
 use Rattle.seqs.specs.Filled.{filled}
 use Rattle.sets.specs.TestLaws.{==-in, and-in, and-l, and-r, bool?, if-false, if-true}
 use Rattle.sets.specs.Tests.{_≤?_}
 use Rattle.text.specs.Bytes.{Text as Bytes}
 use Rattle.text.specs.Handed.{PassesNamed}
-use Rattle.text.specs.LentSlice.{stateAfter}
+use Rattle.text.specs.LentSlice.{rowsBack, stateAfter}
 use Rattle.text.specs.SameByNames.{Same, textOf}
 use Rattle.text_laws.specs.EqualTexts as texts
 use Rattle.text_laws.specs.Handed.{hold-names, names-hold}
@@ -77,8 +76,9 @@ module _ {s n c v f i old : List ℕ} {r : Text} {new : List ℕ} (k : TextCall 
       ap₂ (λ (l : ℕ) (x : List ℕ). take l x) (k .len ∙ if-true _ _ _ t) (k .slice ∙ if-true _ _ _ t)
       ∙ take-append-seam (textOf (handed s n c v f i)) _
 
-  -- "A book written as text and read into an empty session is the same book by names"
-  pub written-reads-back : (slice : List ℕ) → 480 ≤ length slice → Same (stateAfter slice (take (r .len) new)) (handed s n c v f i)
+  -- "A book written as text and read into an empty session is the same book by names", with a slice long enough for the rows
+  pub written-reads-back : (slice : List ℕ) → length (rowsBack (handed s n c v f i)) ≤ length slice
+      → Same (stateAfter slice (take (r .len) new)) (handed s n c v f i)
   written-reads-back slice h =
       subst (λ (w : Bytes). Same (stateAfter slice w) (handed s n c v f i)) (sym answered-text)
       (reads-back-in (handed s n c v f i) answered-named slice h)

@@ -6,7 +6,9 @@ use lib.IntN.{negsuc, pos, ℤ}
 use lib.ListN.{drop, length, replicate}
 use Rattle.sets.specs.Tests.{_&_, _≤?_, if_then_else_}
 use Rattle.text.specs.Bytes.{Text, bytes}
+use Rattle.text.specs.SameByNames.{accepted}
 use Rattle.text.specs.Session.{State, fresh, session}
+use Rattle.text.specs.Written.{asCommands}
 
 -- "does the result fit the lent slice?"
 unfoldable pub fitsIn : List ℕ → Text → Bool
@@ -23,6 +25,12 @@ sliceAfter slice t = if fitsIn slice t then listingIn slice t else replicate (le
 -- "The library's session also hands back its book and tables as reached; after 22 both are empty."
 unfoldable pub stateAfter : List ℕ → Text → State
 stateAfter slice t = if fitsIn slice t then session t .1 else fresh
+
+-- ---- reading back
+
+-- "reading back supposes a slice long enough for the rows": these, one with 0 for each command of the book's text
+abbrev pub rowsBack : State → Text
+rowsBack s = accepted 1 (length (asCommands (s .book) (s .tables)))
 
 -- ---- the host's call
 

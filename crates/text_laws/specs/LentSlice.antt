@@ -14,9 +14,9 @@ use Rattle.sets.specs.TestLaws.{<?-in, <?-out, bool?, count-le, if-false, if-tr
 use Rattle.sets.specs.Tests.{_<?_, if_then_else_}
 use Rattle.text.specs.Bytes.{Text, bytes}
 use Rattle.text.specs.Handed.{PassesNamed}
-use Rattle.text.specs.LentSlice.{fitsIn, stateAfter}
+use Rattle.text.specs.LentSlice.{fitsIn, rowsBack, stateAfter}
 use Rattle.text.specs.SameByNames.{Same, accepted, holds, textOf}
-use Rattle.text.specs.Session.{State, decimal, digits, row, session}
+use Rattle.text.specs.Session.{State, decimal, digits, row}
 use Rattle.text.specs.Written.{asCommands, byName, modOf, specOf, sysOf, systemsFrom, systemsInOrder}
 use Rattle.text_laws.specs.BookReadsBack.{reads-back}
 use Rattle.text_laws.specs.Listed.{lists-length}
@@ -86,14 +86,15 @@ commands-few s p =
     let e = length-append (map (modOf (s .book) (s .tables)) ms) (map (sysOf (s .book) (s .tables)) ss) in
     omega arith
 
-pub rows-short : (s : State) → PassesNamed s → length (session (textOf s) .0) ≤ 480
+-- 480 bytes are always enough for the rows
+pub rows-short : (s : State) → PassesNamed s → length (rowsBack s) ≤ 480
 rows-short s p =
     let n = commands-few s (passes→named p) in
-    subst (λ (w : Text). length w ≤ 480) (sym (reads-back s p .0))
-    (le-trans (accepted-short (length (asCommands (s .book) (s .tables))) 1 (omega arith)) (omega arith))
+    le-trans (accepted-short (length (asCommands (s .book) (s .tables))) 1 (omega arith)) (omega arith)
 
--- A book written as text and read into an empty session with a slice of 480 bytes or more is the same book by names.
-pub reads-back-in : (s : State) → PassesNamed s → (slice : List ℕ) → 480 ≤ length slice → Same (stateAfter slice (textOf s)) s
+-- A book written as text and read into an empty session with a slice long enough for the rows is the same book by names.
+pub reads-back-in : (s : State) → PassesNamed s → (slice : List ℕ) → length (rowsBack s) ≤ length slice → Same (stateAfter slice (textOf s)) s
 unfolding stateAfter fitsIn
 reads-back-in s p slice h x =
-    ap (λ (z : State). holds z x) (if-true _ _ _ (≤?-in _ _ (let k = rows-short s p in omega arith))) ∙ reads-back s p .1 x
+    let r = reads-back s p in
+    ap (λ (z : State). holds z x) (if-true _ _ _ (≤?-in _ _ (subst (λ (w : Text). length w ≤ length slice) (sym (r .0)) h))) ∙ r .1 x

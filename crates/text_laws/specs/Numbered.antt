@@ -123,10 +123,10 @@ unfolding every inside modIn
 mod-in tv ti [] a b = refl
 mod-in tv ti (x ∷ xs) a b = and-in _ _ (and-in _ _ (and-l _ _ a) (and-l _ _ b)) (mod-in tv ti xs (and-r _ _ a) (and-r _ _ b))
 
-memberIn : (tc tv : Table) → Name × Option Name → Bool
+unfoldable pub memberIn : (tc tv : Table) → Name × Option Name → Bool
 memberIn tc tv m = among (m .0) tc & if-there (m .1) (λ v. among v tv)
 
-members-in : (tc tv : Table) (ms : NamedMembers) → inside tc (memberNames ms) ≡ true → inside tv (memberVersions ms) ≡ true
+pub members-in : (tc tv : Table) (ms : NamedMembers) → inside tc (memberNames ms) ≡ true → inside tv (memberVersions ms) ≡ true
     → every (memberIn tc tv) ms ≡ true
 unfolding every inside memberIn memberNames memberVersions given if-there
 members-in tc tv [] a b = refl
@@ -134,10 +134,10 @@ members-in tc tv ((c, none) ∷ ms) a b = and-in _ _ (and-in _ _ (and-l _ _ a) r
 members-in tc tv ((c, some v) ∷ ms) a b = and-in _ _ (and-in _ _ (and-l _ _ a) (and-l _ _ b))
     (members-in tc tv ms (and-r _ _ a) (and-r _ _ b))
 
-sysIn : (tc tv : Table) → Name × NamedMembers → Bool
+unfoldable pub sysIn : (tc tv : Table) → Name × NamedMembers → Bool
 sysIn tc tv x = among (x .0) tv & every (memberIn tc tv) (x .1)
 
-sys-in : (tc tv : Table) (ks : List (Name × NamedMembers)) → inside tc (joined (map (λ x. memberNames (x .1)) ks)) ≡ true
+pub sys-in : (tc tv : Table) (ks : List (Name × NamedMembers)) → inside tc (joined (map (λ x. memberNames (x .1)) ks)) ≡ true
     → inside tv (joined (map (λ x. x .0 ∷ memberVersions (x .1)) ks)) ≡ true → every (sysIn tc tv) ks ≡ true
 unfolding every inside sysIn joined
 sys-in tc tv [] a b = refl
@@ -164,7 +164,7 @@ pub in-r : (t : Table) (xs ys : List Name) → inside t (xs ++ ys) ≡ true → 
 unfolding inside
 in-r t xs ys h = every-r _ xs ys h
 
-in-among : (t : Table) (ws : List Name) (w : Name) → inside t ws ≡ true → among w ws ≡ true → among w t ≡ true
+pub in-among : (t : Table) (ws : List Name) (w : Name) → inside t ws ≡ true → among w ws ≡ true → among w t ≡ true
 unfolding inside
 in-among t ws w h a = every-among (λ x. among x t) ws w h a
 

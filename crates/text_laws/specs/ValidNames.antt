@@ -77,7 +77,7 @@ unfolding andThen
 bind-o none Q R f l h = tt
 bind-o (some x) Q R f l h = h (x .0) l .at (x .1)
 
-bind-gives : {A B : Type 0} (p : Reader A) (Q : A → Bool) (R : B → Bool) (f : A → Reader B) → Gives p Q
+pub bind-gives : {A B : Type 0} (p : Reader A) (Q : A → Bool) (R : B → Bool) (f : A → Reader B) → Gives p Q
     → ((a : A) → Q a ≡ true → Gives (f a) R) → Gives (_>>=_ p f) R
 unfolding _>>=_
 bind-gives p Q R f e h = record { at = λ t. bind-o (p t) Q R f (e .at t) h }
@@ -86,18 +86,18 @@ always-o : {A : Type 0} (o : Option (A × Text)) → GivesO (λ x. true) o
 always-o none = tt
 always-o (some x) = refl
 
-always : {A : Type 0} (p : Reader A) → Gives p (λ x. true)
+pub always : {A : Type 0} (p : Reader A) → Gives p (λ x. true)
 always p = record { at = λ t. always-o (p t) }
 
-then-gives : {A B : Type 0} (p : Reader A) (R : B → Bool) (q : Reader B) → Gives q R → Gives (_>>_ p q) R
+pub then-gives : {A B : Type 0} (p : Reader A) (R : B → Bool) (q : Reader B) → Gives q R → Gives (_>>_ p q) R
 unfolding _>>_
 then-gives p R q h = record { at = λ t. bind-o (p t) (λ x. true) R (λ a. q) (always-o (p t)) (λ a e. h) }
 
-give-gives : {A : Type 0} (Q : A → Bool) (x : A) → Q x ≡ true → Gives (give x) Q
+pub give-gives : {A : Type 0} (Q : A → Bool) (x : A) → Q x ≡ true → Gives (give x) Q
 unfolding give
 give-gives Q x e = record { at = λ t. e }
 
-when-gives : {A : Type 0} (Q : A → Bool) (b : Bool) (x : A) (p : Reader A) → Q x ≡ true → Gives p Q → Gives (when b x p) Q
+pub when-gives : {A : Type 0} (Q : A → Bool) (b : Bool) (x : A) (p : Reader A) → Q x ≡ true → Gives p Q → Gives (when b x p) Q
 unfolding when
 when-gives Q true x p e g = record { at = λ t. g .at t }
 when-gives Q false x p e g = record { at = λ t. e }

@@ -115,13 +115,13 @@ sysvar-valid c v ms hc hv hm anImplementation = every-none _
 unfoldable pub held : Table → Set
 held t n = n <? length t
 
-number-held : (t : Table) (w : Name) → among w t ≡ true → held t (number t w) ≡ true
+pub number-held : (t : Table) (w : Name) → among w t ≡ true → held t (number t w) ≡ true
 unfolding held
 number-held t w a =
     let q = isSome-out _ (place-there t w a) in
     <?-in _ _ (subst (λ (n : ℕ). n < length t) (sym (number-at t w (q .0) (q .1))) (place-name t w (q .0) (q .1) .1))
 
-numbers-held : (t : Table) (ws : List Name) → inside t ws ≡ true → every (held t) (map (number t) ws) ≡ true
+pub numbers-held : (t : Table) (ws : List Name) → inside t ws ≡ true → every (held t) (map (number t) ws) ≡ true
 unfolding inside
 numbers-held t ws h = every-map (number t) (held t) ws ∙ every-imp _ _ ws (λ w a. number-held t w a) h
 

@@ -3,7 +3,7 @@ use mathlib.Core.Bool.{Bool, false, true}
 use mathlib.Core.List.{List, [], _∷_}
 use mathlib.Core.Option.{Option, none, some}
 use mathlib.Core.Path.{_∙_, _≡_, ap, refl, subst, sym}
-use Prim.Native.Nat.{_+_, _-_, _<_, _≤_, suc, zero, ℕ}
+use Prim.Native.Nat.{_+_, _<_, _≤_, suc, zero, ℕ}
 use native.Mathlib.Omega.{arith}
 use native.Mathlib.Nat.{le-refl}
 use lib.ListN.{List·getD-eq-default, drop, getD, length}
@@ -12,21 +12,22 @@ use Rattle.model.specs.Maps.{isSome}
 use Rattle.names.specs.Stored.{answered}
 use Rattle.names.specs.declared.Found.{Found}
 use Rattle.names.specs.declared.Found.the-variants as found
-use Rattle.read_tokens.specs.Readers.{Answers, Span}
+use Rattle.read_tokens.specs.Readers.{Answers}
 use Rattle.sets.specs.TestLaws.{and-l, and-r, clash, fails, if-false}
 use Rattle.sets.specs.Tests.{_&_, _==_, _or_, if_then_else_}
 use Rattle.text.specs.Bytes.{Text, among, bytes, keywords, same}
 use Rattle.text.specs.Language.{Read, Reader, Said, byWord, command, commandOf, grammar, over, readAs, wrong}
 use Rattle.text.specs.Tables.{nameAt, place}
-use Rattle.text.specs.Tokens.{nextToken}
+use Rattle.text.specs.Tokens.{Next, bad, end, mark, nextToken, quoted, token, word}
 use Rattle.text_laws.specs.Places.{place-name, place-there}
 use Rattle.text_laws.specs.TextLaws.{same-out}
 use Rattle.words.specs.KeywordLaws.{keyword-length, keywords-counted}
 use Rattle.words.specs.Keywords.{keywordCount}
-use Rattle.words.specs.Reading.{Reads, ReadsWithin, nextOf, part}
-use Rattle.words.specs.TokenLaws.{part-length}
-use Rattle.words.specs.declared.Token.{Token}
-use Rattle.words.specs.declared.Token.the-variants.{Bad, End, Mark, Quoted, Word}
+use Rattle.words.specs.Reading.{Skips, nextOf, wordAt}
+use Rattle.words.specs.TokenLaws.{next-end, next-open}
+use Rattle.words.specs.WordLaws.{neither, word-ends, word-neither, word-next}
+use Rattle.words.specs.declared.Skipped.{Skipped}
+use Rattle.words.specs.declared.Skipped.the-variants.{To, Open}
 use Rattle.read_command.specs.Forms.{Begins, askedOf, askedOfBook, askedOfVersion, begun, commandReader, formOf, forms, namedReader}
 use Rattle.read_command.specs.Forms.{queryReader, removed, versionRemoved, wordForm}
 use Rattle.read_command.specs.declared.Command.{Command}
@@ -109,66 +110,65 @@ no-form k l = sym (List·getD-eq-default forms Nothing {n = k} l)
 
 -- ---- the ways out of word_form
 
-pub form-long : (t : Text) (a e : ℕ) → Span t a e → 32 < e - a → Nothing ≡ wordForm (place keywords (part t a e))
+pub form-long : (w : Text) → 32 < length w → Nothing ≡ wordForm (place keywords w)
 unfolding wordForm
-form-long t a e h l = by (place keywords (part t a e)) refl
+form-long w l = by (place keywords w) refl
   where
-    by : (o : Option ℕ) → place keywords (part t a e) ≡ o → Nothing ≡ wordForm o
+    by : (o : Option ℕ) → place keywords w ≡ o → Nothing ≡ wordForm o
     by none q = refl
     by (some j) q =
-        let s = place-name keywords (part t a e) j q in let m = keywords-counted in
-        let n = part-length t a e (h .inside) in let o = ap length (s .0) in let i = keyword-length j (omega arith) in
-        absurd (omega arith)
+        let s = place-name keywords w j q in let m = keywords-counted in let o = ap length (s .0) in
+        let i = keyword-length j (omega arith) in absurd (omega arith)
 
-module _ (t w : Text) (a e : ℕ) (f : Found) (p : w ≡ part t a e) (q : answered f ≡ place keywords w) where
-  placed : place keywords (part t a e) ≡ answered f
-  placed = ap (place keywords) (sym p) ∙ sym q
-
-  pub form-none : f ≡ found.Nothing → Nothing ≡ wordForm (place keywords (part t a e))
+module _ (w : Text) (f : Found) (q : answered f ≡ place keywords w) where
+  pub form-none : f ≡ found.Nothing → Nothing ≡ wordForm (place keywords w)
   unfolding wordForm answered
-  form-none h = sym (ap wordForm (placed ∙ ap answered h))
+  form-none h = sym (ap wordForm (sym q ∙ ap answered h))
 
-  pub form-found : (j : ℕ) (r : Form) → f ≡ found.At j → r ≡ formOf j → r ≡ wordForm (place keywords (part t a e))
+  pub form-found : (j : ℕ) (r : Form) → f ≡ found.At j → r ≡ formOf j → r ≡ wordForm (place keywords w)
   unfolding wordForm answered
-  form-found j r h d = d ∙ sym (ap wordForm (placed ∙ ap answered h))
+  form-found j r h d = d ∙ sym (ap wordForm (sym q ∙ ap answered h))
 
 -- ---- the ways out of read_command
 
-module _ (t : Text) (at : ℕ) (l : at ≤ length t) (r : Token) (s : Reads t at (nextToken (drop at t)) r) where
-  here : (f : Form) → commandOf (nextOf t r) ≡ begun f (drop at t) → Begins t at f at
-  unfolding command
-  here f e = record { is = ap commandOf (sym (s .is)) ∙ e; from = le-refl _; inside = l }
+-- what is neither a word nor the end of the text
+not-of-the-language : (n : Next) → neither n ≡ true → commandOf n ≡ wrong
+unfolding neither commandOf
+not-of-the-language (token (word w) u) e = clash e refl
+not-of-the-language (token (quoted w) u) e = refl
+not-of-the-language (token (mark c) u) e = refl
+not-of-the-language end e = clash e refl
+not-of-the-language bad e = refl
 
-  pub begins-quoted : (a e : ℕ) → r ≡ Quoted a e → Begins t at Nothing at
-  unfolding commandOf nextOf begun
-  begins-quoted a e q = here Nothing (ap (λ (x : Token). commandOf (nextOf t x)) q)
+module _ (t : Text) (at : ℕ) (s : Skipped) (g : Skips t at s) where
+  module _ (l : at ≤ length t) where
+    here : (f : Form) → commandOf (nextToken (drop at t)) ≡ begun f (drop at t) → Begins t at f at
+    unfolding command
+    here f e = record { is = e; from = le-refl _; inside = l }
 
-  pub begins-mark : (c e : ℕ) → r ≡ Mark c e → Begins t at Nothing at
-  unfolding commandOf nextOf begun
-  begins-mark c e q = here Nothing (ap (λ (x : Token). commandOf (nextOf t x)) q)
+    pub begins-open : s ≡ Open → Begins t at Nothing at
+    unfolding commandOf nextOf begun
+    begins-open e = here Nothing (ap commandOf (sym (next-open t at s g e .is)))
 
-  pub begins-bad : r ≡ Bad → Begins t at Nothing at
-  unfolding commandOf nextOf begun
-  begins-bad q = here Nothing (ap (λ (x : Token). commandOf (nextOf t x)) q)
+    pub begins-end : (a : ℕ) → s ≡ To a → length t ≤ a → Begins t at Over at
+    unfolding commandOf nextOf begun
+    begins-end a e h = here Over (ap commandOf (sym (next-end t at s a g e h .is)))
 
-  pub begins-end : r ≡ End → Begins t at Over at
-  unfolding commandOf nextOf begun
-  begins-end q = here Over (ap (λ (x : Token). commandOf (nextOf t x)) q)
+    pub begins-none : (a : ℕ) → s ≡ To a → a < length t → (w : Text) → w ≡ wordAt (drop a t) → length w ≡ 0 → Begins t at Nothing at
+    unfolding begun
+    begins-none a e h w p z = here Nothing (not-of-the-language _ (word-neither t at s g a e w p z h))
 
-module _ (t : Text) (at : ℕ) (r : Token) (s : Reads t at (nextToken (drop at t)) r) (a e : ℕ) (q : r ≡ Word a e) where
-  word-within : ReadsWithin t at (Word a e)
-  word-within = subst (ReadsWithin t at) q (s .within)
-
-  pub begins-span : Span t a e
-  begins-span = record { some-bytes = word-within .1; inside = word-within .2 }
-
-  pub begins-word : (f : Form) → f ≡ wordForm (place keywords (part t a e)) → Begins t at f e
-  unfolding command commandOf nextOf worded
-  begins-word f d = record {
-    is = ap commandOf (sym (s .is) ∙ ap (nextOf t) q) ∙ word-begins (part t a e) (drop e t) ∙ ap (λ (g : Form). begun g (drop e t)) (sym d);
-    from = (let w = word-within in omega arith);
-    inside = word-within .2;
-  }
+  pub begins-word : (a : ℕ) → s ≡ To a → (w : Text) → w ≡ wordAt (drop a t) → (length w ≡ 0 → ⊥)
+      → (f : Form) → f ≡ wordForm (place keywords w) → Begins t at f (a + length w)
+  unfolding command commandOf worded
+  begins-word a e w p n f d =
+      let i = word-ends t at s g a e w p in
+      record {
+        is = ap commandOf (word-next t at s g a e w p n) ∙ word-begins w (drop (a + length w) t)
+            ∙ ap (λ (x : Form). begun x (drop (a + length w) t)) (sym d);
+        from = omega arith;
+        inside = i .1;
+      }
 
 -- ---- the reader of a command, by what the code has matched
 

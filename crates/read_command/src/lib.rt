@@ -1,7 +1,7 @@
 // A command by its first word, as one datum; the names of deletions and queries.
 ghost use mathlib.Core.Path.{_≡_};
 ghost use mathlib.Core.Bool.{true};
-ghost use Prim.Native.Nat.{_≤_};
+ghost use Prim.Native.Nat.{_<_, _≤_};
 ghost use lib.ListN.{length};
 ghost use Rattle.text.specs.Bytes.{keywords, short};
 ghost use Rattle.names.specs.Stored.{answered, tableOf};
@@ -129,15 +129,15 @@ fn form_of(k: usize) -> Form
     }
 }
 
-// What the word from a to e begins.
-fn word_form(text: &[u8], a: usize, e: usize) -> Form
-    requires { ⌜ Span (now text) a e ⌝ }
-    ensures { λ r. ⌜ r ≡ wordForm (place keywords (part (now (text .entry)) a e)) ⌝ }
+// What a word begins.
+fn word_form(word: &[u8]) -> Form
+    requires { ⌜ 0 < length (now word) ⌝ }
+    ensures { λ r. ⌜ r ≡ wordForm (place keywords (now (word .entry))) ⌝ }
 {
-    if 32 < e - a {
+    if 32 < word.len() {
         return Form::Nothing;
     }
-    let names::Found::At(k) = words::keyword_of(words::word(text, a, e)) else {
+    let names::Found::At(k) = words::keyword_of(word) else {
         return Form::Nothing;
     };
     form_of(k)
@@ -148,27 +148,28 @@ pub fn read_command(text: &[u8], at: usize) -> FirstWord
     requires { ⌜ at ≤ length (now text) ⌝ }
     ensures { λ r. ⌜ Begins (now (text .entry)) at (r .form) (r .end) ⌝ }
 {
-    match words::next_token(text, at) {
-        words::Token::Word(a, e) => FirstWord {
-            form: word_form(text, a, e),
-            end: e,
-        },
-        words::Token::Quoted(_, _) => FirstWord {
+    let words::Skipped::To(a) = words::next_start(text, at) else {
+        return FirstWord {
             form: Form::Nothing,
             end: at,
-        },
-        words::Token::Mark(_, _) => FirstWord {
-            form: Form::Nothing,
-            end: at,
-        },
-        words::Token::End => FirstWord {
+        };
+    };
+    if text.len() <= a {
+        return FirstWord {
             form: Form::Over,
             end: at,
-        },
-        words::Token::Bad => FirstWord {
+        };
+    }
+    let word = words::word(text, a);
+    if word.len() == 0 {
+        return FirstWord {
             form: Form::Nothing,
             end: at,
-        },
+        };
+    }
+    FirstWord {
+        form: word_form(word),
+        end: a + word.len(),
     }
 }
 
@@ -241,7 +242,7 @@ fn lookup_part(facs: &[u8], text: &[u8], a: usize, e: usize) -> names::Found
     requires { ⌜ short (part (now text) a e) ≡ true ⌝ }
     ensures { λ r. ⌜ answered r ≡ place (tableOf facilities (now (facs .entry))) (part (now (text .entry)) a e) ⌝ }
 {
-    names::lookup(facs, 64, words::word(text, a, e))
+    names::lookup(facs, 64, words::part(text, a, e))
 }
 
 // A facility, looked up.

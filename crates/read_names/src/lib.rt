@@ -24,7 +24,7 @@ fn enter_part(names: &mut [u8], places: usize, text: &[u8], a: usize, e: usize) 
     ensures { λ r. ⌜ Kept places (now (names .exit)) ⌝ }
     ensures { λ r. ⌜ Enters places (tableOf places (now (names .entry))) (tableOf places (now (names .exit))) (r .number) (r .room) (part (now (text .entry)) a e) ⌝ }
 {
-    let names::Found::At(k) = names::enter(names, places, words::word(text, a, e)) else {
+    let names::Found::At(k) = names::enter(names, places, words::part(text, a, e)) else {
         return Entry {
             number: 0,
             room: false,

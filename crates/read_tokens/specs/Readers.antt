@@ -1,13 +1,13 @@
 -- What the code answers that reads from a position of the text: it stands for a reader of crate text, `p`.
 use mathlib.Core.Bool.{Bool, false, true}
-use mathlib.Core.Option.{Option, none, some}
+use mathlib.Core.Option.{none, some}
 use mathlib.Core.Path.{_≡_}
 use Prim.Native.Nat.{_<_, _≤_, ℕ}
 use lib.ListN.{drop, length}
 use Rattle.text.specs.Bytes.{Text, keywords}
 use Rattle.text.specs.Language.{Reader}
 use Rattle.text.specs.Tables.{nameAt}
-use Rattle.text.specs.Tokens.{Next, Token, bad, end, mark, nextToken, quoted, token, word}
+use Rattle.text.specs.Tokens.{Token, word}
 use Rattle.words.specs.Reading.{part}
 
 -- from `at` on p reads a value up to position e, and R holds of the value
@@ -41,17 +41,6 @@ pub record PartOf (t : Text) (a e : ℕ) (w : Text) : Type 0 where
   pub span : Span t a e
 
 -- ---- tokens
-
-unfoldable pub wordOf : Next → Option (Text × Text)
-wordOf (token (word w) rest) = some (w, rest)
-wordOf (token (quoted w) rest) = none
-wordOf (token (mark c) rest) = none
-wordOf end = none
-wordOf bad = none
-
--- a word: a name or a keyword, or too long for one
-unfoldable pub anyWord : Reader Text
-anyWord t = wordOf (nextToken t)
 
 -- the keyword k as a token
 unfoldable pub keyAt : ℕ → Token

@@ -1,12 +1,10 @@
 -- Tokens read from a position: a law for each way out of the code.
 use mathlib.Core.Bool.{Bool, false, true}
-use mathlib.Core.Bool.{not as notᵇ}
 use mathlib.Core.Logic.{inl, inr}
 use mathlib.Core.Option.{Option, Option·some-injective, none, some}
 use mathlib.Core.Path.{_∙_, _≡_, ap, refl, subst, sym}
-use Prim.Native.Nat.{_+_, _-_, _<_, _≤_, ℕ}
+use Prim.Native.Nat.{_+_, _<_, _≤_, ℕ}
 use native.Mathlib.Omega.{arith}
-use borrow.Author.Tests.{not-false, not-true}
 use lib.Dec.{eqb}
 use lib.ListN.{drop, length, length-drop}
 use Rattle.model.specs.Maps.{onlyIf}
@@ -14,20 +12,22 @@ use Rattle.sets.specs.TestLaws.{==-in, ==-out, bool?, clash, fails, if-false, i
 use Rattle.model_laws.specs.MapLaws.{no-some}
 use Rattle.words.specs.KeywordLaws.{keyword-length}
 use Rattle.words.specs.Keywords.{keywordCount}
-use Rattle.words.specs.TokenLaws.{part-length, short-in}
+use Rattle.words.specs.WordLaws.{word-ends, word-next, word-none, word-open, word-part}
 use Rattle.text_laws.specs.TextLaws.{same-out, same-sym}
 use Rattle.sets.specs.Tests.{_==_}
-use Rattle.text.specs.Bytes.{Text, keywords, nameWord, same, short}
+use Rattle.text.specs.Bytes.{Text, keywords, nameWord, same}
 use Rattle.text.specs.Language.{Reader, ahead, aheadOf, imp, name, nameOf, quotedOf, want, wantOf}
 use Rattle.text.specs.Tables.{nameAt}
 use Rattle.text.specs.Tokens.{Next, bad, end, isToken, mark, nextToken, quoted, token, word}
 use Rattle.text.specs.Tokens as tokens
 use Rattle.text_laws.specs.Left.{LeftO, left-length}
 use Rattle.text_laws.specs.Takes.{Takes}
-use Rattle.words.specs.Reading.{Reads, ReadsWithin, nextOf, part}
+use Rattle.words.specs.Reading.{Reads, ReadsWithin, Skips, nextOf, part, wordAt, wordOf}
+use Rattle.words.specs.declared.Skipped.{Skipped}
+use Rattle.words.specs.declared.Skipped.the-variants.{To, Open}
 use Rattle.words.specs.declared.Token.{Token}
 use Rattle.words.specs.declared.Token.the-variants.{Word, Quoted, Mark, End, Bad}
-use Rattle.read_tokens.specs.Readers.{Answers, Any, Got, PartOf, Span, anyWord, keyAt, wordOf}
+use Rattle.read_tokens.specs.Readers.{Answers, Any, Got, PartOf, keyAt}
 
 -- ---- answers
 
@@ -53,68 +53,19 @@ got-less p R t at e k g h =
     let le = length-drop e t in let la = length-drop at t in let i = g .inside in
     omega arith
 
--- ---- a part of the text
-
-pub part-some : (t w : Text) (a e : ℕ) → Span t a e → w ≡ part t a e → 0 < length w
-part-some t w a e h q = let n = part-length t a e (h .inside) in let l = h .some-bytes in let m = ap length q in omega arith
-
-pub part-short : (t w : Text) (a e : ℕ) → Span t a e → e - a ≤ 32 → w ≡ part t a e → short w ≡ true
-part-short t w a e h m q = short-in w (part-some t w a e h q) (let n = part-length t a e (h .inside) in let k = ap length q in omega arith)
-
 -- ---- keywords
 
--- the ways out of is_key_between
-pub not-key-long : (t : Text) (a e k : ℕ) → Span t a e → k < keywordCount → 32 < e - a → false ≡ same (part t a e) (nameAt keywords k)
-not-key-long t a e k h l m =
-    sym (fails _ (λ s. let q = ap length (same-out _ _ s) in let n = part-length t a e (h .inside) in
-    let j = keyword-length k l in absurd (omega arith)))
-
-pub key-part : (t w : Text) (a e k : ℕ) (r : Bool) → w ≡ part t a e → r ≡ same w (nameAt keywords k)
-    → r ≡ same (part t a e) (nameAt keywords k)
-key-part t w a e k r p q = q ∙ ap (λ (x : Text). same x (nameAt keywords k)) p
+-- a word too long for a keyword, a way out of is_key
+pub not-key-long : (w : Text) (k : ℕ) → k < keywordCount → 32 < length w → false ≡ same w (nameAt keywords k)
+not-key-long w k l m =
+    sym (fails _ (λ s. let q = ap length (same-out _ _ s) in let j = keyword-length k l in absurd (omega arith)))
 
 same-turn : (x y : Text) → same x y ≡ same y x
 same-turn x y = iff→≡ _ _ (same-sym x y) (same-sym y x)
 
-pub name-part : (t w : Text) (a e : ℕ) (r : Bool) → w ≡ part t a e → r ≡ nameWord w → r ≡ nameWord (part t a e)
-name-part t w a e r p q = q ∙ ap nameWord p
-
 -- ---- one token
 
 module _ (t : Text) (at : ℕ) (r : Token) (s : Reads t at (nextToken (drop at t)) r) where
-  pub word-yes : (a e : ℕ) → r ≡ Word a e → Answers anyWord (PartOf t a e) t at true e
-  unfolding anyWord wordOf nextOf
-  word-yes a e q =
-      let w = subst (ReadsWithin t at) q (s .within) in
-      let z : nextToken (drop at t) ≡ token (word (part t a e)) (drop e t) = sym (s .is) ∙ ap (nextOf t) q in
-      answer-yes _ _ t at e (record {
-        value = part t a e;
-        is = ap wordOf z;
-        took = record { is = refl; span = record { some-bytes = w .1; inside = w .2 } };
-        from = omega arith;
-        inside = w .2;
-      })
-
-  no-word : (R : Text → Type 0) (z : ℕ) → wordOf (nextOf t r) ≡ none → Answers anyWord R t at false z
-  unfolding anyWord
-  no-word R z h = answer-no _ R t at z (ap wordOf (sym (s .is)) ∙ h)
-
-  pub word-quoted : (R : Text → Type 0) (z a e : ℕ) → r ≡ Quoted a e → Answers anyWord R t at false z
-  unfolding wordOf nextOf
-  word-quoted R z a e q = no-word R z (ap (λ (x : Token). wordOf (nextOf t x)) q)
-
-  pub word-mark : (R : Text → Type 0) (z c e : ℕ) → r ≡ Mark c e → Answers anyWord R t at false z
-  unfolding wordOf nextOf
-  word-mark R z c e q = no-word R z (ap (λ (x : Token). wordOf (nextOf t x)) q)
-
-  pub word-end : (R : Text → Type 0) (z : ℕ) → r ≡ End → Answers anyWord R t at false z
-  unfolding wordOf nextOf
-  word-end R z q = no-word R z (ap (λ (x : Token). wordOf (nextOf t x)) q)
-
-  pub word-bad : (R : Text → Type 0) (z : ℕ) → r ≡ Bad → Answers anyWord R t at false z
-  unfolding wordOf nextOf
-  word-bad R z q = no-word R z (ap (λ (x : Token). wordOf (nextOf t x)) q)
-
   -- an implementation
   pub imp-yes : (a e : ℕ) → r ≡ Quoted a e → Answers imp (PartOf t a e) t at true (e + 1)
   unfolding imp quotedOf nextOf
@@ -180,15 +131,6 @@ module _ (t : Text) (at : ℕ) (r : Token) (s : Reads t at (nextToken (drop at t
 
 -- ---- words
 
-word-token : (n : Next) (w u : Text) → wordOf n ≡ some (w, u) → n ≡ token (word w) u
-unfolding wordOf
-word-token (token (word x) v) w u e =
-    let q = Option·some-injective _ _ e in ap (λ (y : Text × Text). token (word (y .0)) (y .1)) q
-word-token (token (quoted x) v) w u e = no-some e
-word-token (token (mark c) v) w u e = no-some e
-word-token end w u e = no-some e
-word-token bad w u e = no-some e
-
 not-word-name : (n : Next) → wordOf n ≡ none → nameOf n ≡ none
 unfolding wordOf nameOf
 not-word-name (token (word x) v) e = no-some (sym e)
@@ -205,40 +147,43 @@ not-word-key w (token (mark c) v) e = refl
 not-word-key w end e = refl
 not-word-key w bad e = refl
 
-module _ (t : Text) (at a e : ℕ) (there : Bool) (r : Answers anyWord (PartOf t a e) t at there e) where
-  pub name-no : (R : Text → Type 0) (z : ℕ) → notᵇ there ≡ true → Answers name R t at false z
-  unfolding name anyWord
-  name-no R z n = answer-no _ R t at z (not-word-name _ (r .no (not-true there n)))
+-- by where the next token begins and the word there
+module _ (t : Text) (at : ℕ) (s : Skipped) (g : Skips t at s) where
+  pub name-open : (R : Text → Type 0) (z : ℕ) → s ≡ Open → Answers name R t at false z
+  unfolding name
+  name-open R z e = answer-no _ R t at z (not-word-name _ (word-open t at s g e))
 
-  pub key-no : (k z : ℕ) → notᵇ there ≡ true → Answers (want (keyAt k)) Any t at false z
-  unfolding want anyWord keyAt
-  key-no k z n = answer-no _ Any t at z (not-word-key _ _ (r .no (not-true there n)))
+  pub key-open : (k z : ℕ) → s ≡ Open → Answers (want (keyAt k)) Any t at false z
+  unfolding want keyAt
+  key-open k z e = answer-no _ Any t at z (not-word-key _ _ (word-open t at s g e))
 
-  pub word-part : notᵇ there ≡ false → Span t a e
-  word-part n = r .yes (not-false there n) .took .span
+  module _ (a : ℕ) (q : s ≡ To a) (w : Text) (p : w ≡ wordAt (drop a t)) where
+    pub name-none : (R : Text → Type 0) (z : ℕ) → length w ≡ 0 → Answers name R t at false z
+    unfolding name
+    name-none R z e = answer-no _ R t at z (not-word-name _ (word-none t at s g a q w p e))
 
-  module _ (n : notᵇ there ≡ false) where
-    next-is : nextToken (drop at t) ≡ token (word (part t a e)) (drop e t)
-    unfolding anyWord
-    next-is =
-        let g = r .yes (not-false there n) in
-        word-token _ _ _ (g .is) ∙ ap (λ (w : Text). token (word w) (drop e t)) (g .took .is)
+    pub key-none : (k z : ℕ) → length w ≡ 0 → Answers (want (keyAt k)) Any t at false z
+    unfolding want keyAt
+    key-none k z e = answer-no _ Any t at z (not-word-key _ _ (word-none t at s g a q w p e))
 
-    pub name-is : (b : Bool) → b ≡ nameWord (part t a e) → Answers name (PartOf t a e) t at b e
-    unfolding name nameOf
-    name-is b q =
-        let g = r .yes (not-false there n) in
-        answer-only name (PartOf t a e) t at e b (part t a e)
-        (ap nameOf next-is ∙ ap (λ (x : Bool). onlyIf x (part t a e, drop e t)) (sym q))
-        (record { is = refl; span = g .took .span }) (g .from) (g .inside)
+    module _ (n : length w ≡ 0 → ⊥) where
+      pub name-is : (b : Bool) → b ≡ nameWord w → Answers name (PartOf t a (a + length w)) t at b (a + length w)
+      unfolding name nameOf
+      name-is b h =
+          let e = word-ends t at s g a q w p in
+          answer-only name (PartOf t a (a + length w)) t at (a + length w) b w
+          (ap nameOf (word-next t at s g a q w p n) ∙ ap (λ (x : Bool). onlyIf x (w, drop (a + length w) t)) (sym h))
+          (record { is = word-part t at s g a q w p; span = record { some-bytes = omega (arith, n); inside = e .1 } })
+          (omega arith) (e .1)
 
-    pub key-is : (k : ℕ) (b : Bool) → b ≡ same (part t a e) (nameAt keywords k) → Answers (want (keyAt k)) Any t at b e
-    unfolding want wantOf keyAt isToken
-    key-is k b q =
-        let g = r .yes (not-false there n) in
-        answer-only (want (keyAt k)) Any t at e b tt
-        (ap (wantOf (keyAt k)) next-is ∙ ap (λ (x : Bool). onlyIf x (tt, drop e t)) (same-turn (nameAt keywords k) (part t a e) ∙ sym q))
-        (record {}) (g .from) (g .inside)
+      pub key-is : (k : ℕ) (b : Bool) → b ≡ same w (nameAt keywords k) → Answers (want (keyAt k)) Any t at b (a + length w)
+      unfolding want wantOf keyAt isToken
+      key-is k b h =
+          let e = word-ends t at s g a q w p in
+          answer-only (want (keyAt k)) Any t at (a + length w) b tt
+          (ap (wantOf (keyAt k)) (word-next t at s g a q w p n)
+          ∙ ap (λ (x : Bool). onlyIf x (tt, drop (a + length w) t)) (same-turn (nameAt keywords k) w ∙ sym h))
+          (record {}) (omega arith) (e .1)
 
 -- ---- what stands next, read only if it is there
 

@@ -3,13 +3,12 @@
 ghost use mathlib.Core.Path.{_≡_};
 ghost use Prim.Native.Nat.{_+_, _<_, _≤_};
 ghost use lib.ListN.{length};
-ghost use Rattle.text.specs.Bytes.{keywords, nameWord, same};
+ghost use Rattle.text.specs.Bytes.{keywords, same};
 ghost use Rattle.text.specs.Tables.{nameAt};
 ghost use Rattle.text.specs.Language.{ahead, imp, name, want};
 ghost use Rattle.text.specs.Tokens.{mark};
 ghost use Rattle.words.specs.Keywords.{keywordCount};
-ghost use Rattle.words.specs.Reading.{part};
-ghost use Rattle.read_tokens.specs.Readers.{Answers, Any, Got, PartOf, Span, Told, anyWord, keyAt};
+ghost use Rattle.read_tokens.specs.Readers.{Answers, Any, Got, PartOf, Told, keyAt};
 
 // A part of the text that is of the kind asked for, if `there`.
 pub struct Part {
@@ -38,40 +37,6 @@ pub const IMPL: usize = 17;
 pub const USE: usize = 19;
 
 // ---- tokens
-
-// The next word.
-fn next_word(text: &[u8], at: usize) -> Part
-    requires { ⌜ at ≤ length (now text) ⌝ }
-    ensures { λ r. ⌜ Answers anyWord (PartOf (now (text .entry)) (r .start) (r .end)) (now (text .entry)) at (r .there) (r .end) ⌝ }
-{
-    match words::next_token(text, at) {
-        words::Token::Word(a, e) => Part {
-            there: true,
-            start: a,
-            end: e,
-        },
-        words::Token::Quoted(_, _) => Part {
-            there: false,
-            start: at,
-            end: at,
-        },
-        words::Token::Mark(_, _) => Part {
-            there: false,
-            start: at,
-            end: at,
-        },
-        words::Token::End => Part {
-            there: false,
-            start: at,
-            end: at,
-        },
-        words::Token::Bad => Part {
-            there: false,
-            start: at,
-            end: at,
-        },
-    }
-}
 
 // An implementation: the word in its quotes. The position behind it is the one behind the closing quote, `end + 1`.
 pub fn read_imp(text: &[u8], at: usize) -> Part
@@ -136,16 +101,16 @@ pub fn want_mark(text: &[u8], at: usize, c: u8) -> Step
     }
 }
 
-// Whether the word from a to e is the keyword with the number k.
-fn is_key_between(text: &[u8], a: usize, e: usize, k: usize) -> bool
-    requires { ⌜ Span (now text) a e ⌝ }
+// Whether a word is the keyword with the number k.
+fn is_key(word: &[u8], k: usize) -> bool
+    requires { ⌜ 0 < length (now word) ⌝ }
     requires { ⌜ k < keywordCount ⌝ }
-    ensures { λ r. ⌜ r ≡ same (part (now (text .entry)) a e) (nameAt keywords k) ⌝ }
+    ensures { λ r. ⌜ r ≡ same (now (word .entry)) (nameAt keywords k) ⌝ }
 {
-    if 32 < e - a {
+    if 32 < word.len() {
         return false;
     }
-    words::is_keyword(words::word(text, a, e), k)
+    words::is_keyword(word, k)
 }
 
 // The keyword with the number k.
@@ -154,18 +119,22 @@ pub fn want_key(text: &[u8], at: usize, k: usize) -> Step
     requires { ⌜ k < keywordCount ⌝ }
     ensures { λ r. ⌜ Answers (want (keyAt k)) Any (now (text .entry)) at (r .there) (r .end) ⌝ }
 {
-    let w = next_word(text, at);
-    if !w.there {
+    let words::Skipped::To(a) = words::next_start(text, at) else {
+        return Step {
+            there: false,
+            end: at,
+        };
+    };
+    let word = words::word(text, a);
+    if word.len() == 0 {
         return Step {
             there: false,
             end: at,
         };
     }
-    let a = w.start;
-    let e = w.end;
     Step {
-        there: is_key_between(text, a, e, k),
-        end: e,
+        there: is_key(word, k),
+        end: a + word.len(),
     }
 }
 
@@ -206,33 +175,30 @@ pub fn pass_mark(text: &[u8], at: usize, c: u8) -> Step
     }
 }
 
-// Whether the word from a to e is a name.
-fn is_name_between(text: &[u8], a: usize, e: usize) -> bool
-    requires { ⌜ Span (now text) a e ⌝ }
-    ensures { λ r. ⌜ r ≡ nameWord (part (now (text .entry)) a e) ⌝ }
-{
-    words::is_name_word(words::word(text, a, e))
-}
-
 // A name.
 pub fn read_name(text: &[u8], at: usize) -> Part
     requires { ⌜ at ≤ length (now text) ⌝ }
     ensures { λ r. ⌜ Answers name (PartOf (now (text .entry)) (r .start) (r .end)) (now (text .entry)) at (r .there) (r .end) ⌝ }
 {
-    let w = next_word(text, at);
-    if !w.there {
+    let words::Skipped::To(a) = words::next_start(text, at) else {
+        return Part {
+            there: false,
+            start: at,
+            end: at,
+        };
+    };
+    let word = words::word(text, a);
+    if word.len() == 0 {
         return Part {
             there: false,
             start: at,
             end: at,
         };
     }
-    let a = w.start;
-    let e = w.end;
     Part {
-        there: is_name_between(text, a, e),
+        there: words::is_name_word(word),
         start: a,
-        end: e,
+        end: a + word.len(),
     }
 }
 

@@ -218,7 +218,7 @@ pub fn show_component<'a>(
         vers,
         facs,
         impls,
-        words::word(text, a, e),
+        words::part(text, a, e),
         query,
     );
     Shown {

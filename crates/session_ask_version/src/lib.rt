@@ -173,10 +173,10 @@ pub fn show_version<'a>(
     }
     let a = w.start;
     let e = w.end;
-    let component = words::word(text, a, e);
+    let component = words::part(text, a, e);
     let b = w.from;
     let f = w.to;
-    let version = words::word(text, b, f);
+    let version = words::part(text, b, f);
     let after = put_named_version(
         out,
         room,

@@ -27,7 +27,7 @@ fn place_of(names: &[u8], places: usize, text: &[u8], a: usize, e: usize) -> nam
     requires { ⌜ short (part (now text) a e) ≡ true ⌝ }
     ensures { λ r. ⌜ answered r ≡ place (tableOf places (now (names .entry))) (part (now (text .entry)) a e) ⌝ }
 {
-    names::lookup(names, places, words::word(text, a, e))
+    names::lookup(names, places, words::part(text, a, e))
 }
 
 // ---- delspec, delmod, delsys

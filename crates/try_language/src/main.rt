@@ -409,7 +409,7 @@ fn one(number: usize, keyword: usize, text: &[u8], at: usize) -> Step
     }
     print_command(number, keyword, r.end);
     print(b": ");
-    print(words::word(text, r.start, r.end));
+    print(words::part(text, r.start, r.end));
     print(b"\n");
     Step {
         there: true,
@@ -431,9 +431,9 @@ fn pair(number: usize, keyword: usize, text: &[u8], at: usize) -> Step
     }
     print_command(number, keyword, r.to);
     print(b": ");
-    print(words::word(text, r.start, r.end));
+    print(words::part(text, r.start, r.end));
     print(b".");
-    print(words::word(text, r.from, r.to));
+    print(words::part(text, r.from, r.to));
     print(b"\n");
     Step {
         there: true,

@@ -52,7 +52,7 @@ fn show_slice(out: &[u8], len: usize) {
         io::write_all(1, b"longer than the slice\n");
         return;
     }
-    io::write_all(1, words::word(out, 0, len));
+    io::write_all(1, words::part(out, 0, len));
     print_last(b"untouched behind it: ", untouched_from(out, len) as u64);
 }
 
@@ -114,7 +114,7 @@ fn enter_each(names: &mut [u8], places: usize, words: &[u8])
     let mut at = 0;
     while at < words.len() {
         let end = word_end(words, at);
-        enter(names, places, words::word(words, at, end));
+        enter(names, places, words::part(words, at, end));
         at = end + 1;
     }
 }

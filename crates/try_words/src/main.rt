@@ -18,15 +18,15 @@ fn print_tokens(text: &[u8]) {
         let token = words::next_token(text, at);
         match token {
             words::Token::Word(start, end) => {
-                print(b"word ", words::word(text, start, end));
+                print(b"word ", words::word(text, start));
                 at = end;
             }
             words::Token::Quoted(start, end) => {
-                print(b"implementation ", words::word(text, start, end));
+                print(b"implementation ", words::part(text, start, end));
                 at = end + 1;
             }
             words::Token::Mark(_, end) => {
-                print(b"mark ", words::word(text, end - 1, end));
+                print(b"mark ", words::part(text, end - 1, end));
                 at = end;
             }
             words::Token::End => {

@@ -3,6 +3,7 @@ pub mod ByteLaws
 pub mod SkipLaws
 pub mod RunLaws
 pub mod TokenLaws
+pub mod WordLaws
 pub mod NameLaws
 pub mod Keywords
 pub mod KeywordLaws

@@ -1,12 +1,14 @@
 -- What the answers of the code mean: tokens of document 01, read from a position of a text.
 use mathlib.Core.Bool.{Bool, false, true}
+use mathlib.Core.List.{[]}
 use mathlib.Core.Option.{Option, none, some}
 use mathlib.Core.Path.{_≡_}
 use Prim.Native.Nat.{_%_, _*_, _+_, _-_, _<_, _≤_, ℕ}
 use lib.ListN.{drop, getD, length, take}
+use Rattle.model.specs.Maps.{orElse}
 use Rattle.sets.specs.Tests.{_==_, _or_, ~_}
 use Rattle.text.specs.Bytes.{Text, implByte, nameByte, white}
-use Rattle.text.specs.Tokens.{Next, bad, closing, end, mark, past, quoted, run, skip, token, word}
+use Rattle.text.specs.Tokens.{Next, bad, closing, end, mark, past, quoted, run, skip, token, tokenAt, word}
 use Rattle.words.specs.declared.Skipped.{Skipped}
 use Rattle.words.specs.declared.Skipped.the-variants.{To, Open}
 use Rattle.words.specs.declared.Token.{Token}
@@ -78,6 +80,20 @@ ReadsWithin t at Bad = Unit {0}
 pub record Reads (t : Text) (at : ℕ) (n : Next) (r : Token) : Type 0 where
   pub is : nextOf t r ≡ n
   pub within : ReadsWithin t at r
+
+-- ---- words
+
+-- the word that a token is
+unfoldable pub wordOf : Next → Option Text
+wordOf (token (word w) rest) = some w
+wordOf (token (quoted w) rest) = none
+wordOf (token (mark c) rest) = none
+wordOf end = none
+wordOf bad = none
+
+-- the word that begins at the start of a text, empty where none does
+unfoldable pub wordAt : Text → Text
+wordAt t = orElse (wordOf (tokenAt t)) []
 
 -- ---- keywords
 

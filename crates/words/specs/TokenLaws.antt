@@ -142,7 +142,7 @@ next-open t at s w e =
     let z : skip false (drop at t) ≡ none = sym (w .is) ∙ ap (restFrom t) e in record { is = rw z; within = tt }
 
 module _ (t : Text) (at : ℕ) (s : Skipped) (i : ℕ) (w : Skips t at s) (e : s ≡ To i) where
-  skipped-to : nextToken (drop at t) ≡ tokenAt (drop i t)
+  pub skipped-to : nextToken (drop at t) ≡ tokenAt (drop i t)
   unfolding nextToken skipped restFrom
   skipped-to = ap skipped (sym (w .is) ∙ ap (restFrom t) e)
 

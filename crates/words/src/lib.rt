@@ -2,14 +2,14 @@
 // specs/Reading.antt.
 ghost use mathlib.Core.Path.{_≡_};
 ghost use mathlib.Core.Bool.{true};
-ghost use Prim.Native.Nat.{_<_, _≤_, _-_};
+ghost use Prim.Native.Nat.{_+_, _<_, _≤_, _-_};
 ghost use lib.ListN.{length, take, drop};
 ghost use Rattle.sets.specs.Sets.{bit};
 ghost use Rattle.text.specs.Bytes.{same, short, white, alnum, isMark, keywords, nameWord, validName, validImplementation};
 ghost use Rattle.text.specs.Tables.{nameAt, place};
 ghost use Rattle.text.specs.Tokens.{tokenAt, nextToken};
 ghost use Rattle.words.specs.Keywords.{keywordCount};
-ghost use Rattle.words.specs.Reading.{passes, staysOpen, inRun, Skips, RunsTo, quotedFrom, Reads, keywordHashes, hashOf};
+ghost use Rattle.words.specs.Reading.{passes, staysOpen, inRun, Skips, RunsTo, quotedFrom, wordAt, Reads, keywordHashes, hashOf};
 ghost use Rattle.names.specs.Stored.{answered};
 
 // Where the next token or the end of the text stands; or a comment is left open.
@@ -163,8 +163,35 @@ pub fn next_token(text: &[u8], at: usize) -> Token
     token_at(text, i)
 }
 
-// "A word that was read is the part of the text itself, no copy."
-pub fn word<'a>(text: &'a [u8], start: usize, end: usize) -> &'a [u8]
+// ---- words
+
+// The end of the word that begins at `at`, or `at` where none does.
+fn word_end(text: &[u8], at: usize) -> usize
+    requires { ⌜ at ≤ length (now text) ⌝ }
+    ensures { λ r. ⌜ r ≡ at + length (wordAt (drop at (now (text .entry)))) ⌝ }
+{
+    if text.len() <= at {
+        return at;
+    }
+    let first = text[at];
+    if is_alnum(first) {
+        return run_end(text, at + 1, false);
+    }
+    at
+}
+
+// The word that begins at `at`, empty where none does: "A word that was read is the part of the text itself, no copy."
+pub fn word<'a>(text: &'a [u8], at: usize) -> &'a [u8]
+    requires { ⌜ at ≤ length (now text) ⌝ }
+    ensures { λ r. ⌜ now r ≡ wordAt (drop at (now (text .entry))) ⌝ }
+{
+    let end = word_end(text, at);
+    &text[at..end]
+}
+
+// A part of the text that was read before. A reader that answers more than the word itself answers where it starts and ends, because a struct
+// that holds a slice is not covered as a result.
+pub fn part<'a>(text: &'a [u8], start: usize, end: usize) -> &'a [u8]
     requires { ⌜ (start ≤ end) × (end ≤ length (now text)) ⌝ }
     ensures { λ r. ⌜ now r ≡ take (end - start) (drop start (now (text .entry))) ⌝ }
 {

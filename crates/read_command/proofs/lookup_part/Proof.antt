@@ -6,11 +6,11 @@ use Rattle.read_command.proofs.lookup_part.Tie as tie
 use Rattle.read_command.proofs.lookup_part.Reads as reads
 use Rattle.read_command.proofs.lookup_part.Lts as lts
 use Rattle.names.proofs.lookup.Reads as lookup-reads
-use Rattle.words.proofs.word.Reads as word-reads
+use Rattle.words.proofs.part.Reads as part-reads
 
 -- src/lib.rt:1491:29
-word-requires : tie.Need-word-requires
-word-requires c κs = search needs
+part-requires : tie.Need-part-requires
+part-requires c κs = search needs
 
 -- src/lib.rt:1491:5
 lookup-requires : tie.Need-lookup-requires
@@ -21,4 +21,4 @@ returns : tie.Need-returns
 returns c = search (needs, lookup-is)
 
 pub lookup-part-spec : {M : Type 1} → statement M
-lookup-part-spec = tie.close (tie.spec word-requires lookup-requires returns)
+lookup-part-spec = tie.close (tie.spec part-requires lookup-requires returns)

@@ -1,21 +1,10 @@
 use borrow.Author.Needs.{needs}
-use Rattle.read_command.specs.FormLaws.{begins-bad, begins-end, begins-mark, begins-quoted, begins-span, begins-word}
+use Rattle.read_command.specs.FormLaws.{begins-end, begins-none, begins-open, begins-word}
 use Rattle.read_command.proofs.read_command.Statement.{statement}
 use Rattle.read_command.proofs.read_command.Tie as tie
 
 pub read-command-spec : {M : Type 1} → statement M
-read-command-spec =
-    tie.close
-    (tie.spec
-    (λ c κs. search needs)
-    (λ c. search needs)
-    (λ c κs. search (needs, begins-span))
-    (λ c. search needs)
-    (λ c. search needs)
-    (λ c. search needs)
-    (λ c. search needs)
-    (λ c. search (needs, begins-word))
-    (λ c. search (needs, begins-quoted))
-    (λ c. search (needs, begins-mark))
-    (λ c. search (needs, begins-end))
-    (λ c. search (needs, begins-bad)))
+read-command-spec = tie.close
+    (tie.spec (λ c κs. search needs) (λ c. search needs) (λ c. search needs) (λ c. search (needs, begins-open))
+    (λ c. search (needs, begins-end)) (λ c κs. search needs) (λ c. search (needs, begins-none)) (λ c κs. search needs)
+    (λ c. search needs) (λ c. search (needs, begins-word)))

@@ -5,11 +5,11 @@ use Rattle.read_names.proofs.enter_part.Tie as tie
 use Rattle.read_names.proofs.enter_part.Reads as reads
 use Rattle.read_names.proofs.enter_part.Lts as lts
 use Rattle.names.proofs.enter.Reads as enter-reads
-use Rattle.words.proofs.word.Reads as word-reads
+use Rattle.words.proofs.part.Reads as part-reads
 
 -- src/lib.rt:138:59
-word-requires : tie.Need-word-requires
-word-requires c κs = search needs
+part-requires : tie.Need-part-requires
+part-requires c κs = search needs
 
 -- src/lib.rt:138:31
 enter-requires : tie.Need-enter-requires
@@ -43,7 +43,7 @@ pub enter-part-spec : {M : Type 1} → statement M
 enter-part-spec =
     tie.close
     (tie.spec
-    word-requires
+    part-requires
     enter-requires
     enum-known-k
     enum-told

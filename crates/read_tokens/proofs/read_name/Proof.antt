@@ -1,27 +1,14 @@
-use Rattle.read_tokens.specs.TokenLaws.{word-part, name-no, name-is}
 use borrow.Author.Needs.{needs}
+use native.Mathlib.Omega.{arith}
+use Rattle.words.specs.WordLaws.{start-inside, word-ends}
+use Rattle.read_tokens.specs.TokenLaws.{name-open, name-none, name-is}
 use Rattle.read_tokens.proofs.read_name.Statement.{statement}
 use Rattle.read_tokens.proofs.read_name.Tie as tie
-use Rattle.read_tokens.proofs.read_name.Reads as reads
-use Rattle.read_tokens.proofs.read_name.Lts as lts
-use Rattle.read_tokens.proofs.is_name_between.Reads as is-name-between-reads
-use Rattle.read_tokens.proofs.next_word.Reads as next-word-reads
-
--- src/lib.rt:111:9
-next-word-requires : tie.Need-next-word-requires
-next-word-requires c κs = search needs
-
--- src/lib.rt:113:9
-returns : tie.Need-returns
-returns c = search (needs, name-no)
-
--- src/lib.rt:117:19
-is-name-between-requires : tie.Need-is-name-between-requires
-is-name-between-requires c κs = search (needs, word-part)
-
--- src/lib.rt:107:1
-returns-2 : tie.Need-returns-2
-returns-2 c = search (needs, name-is)
 
 pub read-name-spec : {M : Type 1} → statement M
-read-name-spec = tie.close (tie.spec next-word-requires returns is-name-between-requires returns-2)
+read-name-spec = tie.close
+    (tie.spec (λ c κs. search needs) (λ c. search needs) (λ c. search needs) (λ c. search (needs, name-open))
+    (λ c κs. search (needs, start-inside)) (λ c. search (needs, name-none)) (λ c κs. search needs)
+    (λ c. let e = word-ends _ _ _ (c .before .before .before .before .before .before .next-start .ensures) _
+    (c .before .before .before .before .a .given .1) _ (c .before .before .word .ensures) in omega arith)
+    (λ c. search (needs, name-is)))

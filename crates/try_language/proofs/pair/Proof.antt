@@ -3,8 +3,8 @@ use Rattle.try_language.specs.InsideLaws.{component-within, version-with
 use Rattle.try_language.proofs.pair.Statement.{statement}
 use Rattle.try_language.proofs.pair.Tie as tie
 
-word-requires-2 : tie.Need-word-requires-2
-word-requires-2 c κs = version-within _ _ _ (c .before .before .before .before .before .before .before .before .before .read-pair .ensures) (c .before .before .before .before .before .before .before .if1 .left)
+part-requires-2 : tie.Need-part-requires-2
+part-requires-2 c κs = version-within _ _ _ (c .before .before .before .before .before .before .before .before .before .read-pair .ensures) (c .before .before .before .before .before .before .before .if1 .left)
 
 returns-2 : tie.Need-returns-2
 returns-2 c = pair-inside _ _ _ (c .before .before .before .before .before .before .before .before .before .before .before .before .before .read-pair .ensures) (c .before .before .before .before .before .before .before .before .before .before .before .if1 .left)
@@ -13,5 +13,5 @@ pub pair-spec : {M : Type 1} → statement M
 pair-spec = tie.close
     (tie.spec (λ c κs. search needs) (λ c. search needs) (λ c κs. search needs) (λ c. search needs) (λ c κs. search needs)
     (λ c κs. component-within _ _ _ (c .before .before .before .before .before .read-pair .ensures) (c .before .before .before .if1 .left))
-    (λ c κs. search needs) (λ c. search needs) (λ c κs. search needs) word-requires-2 (λ c κs. search needs) (λ c. search needs)
+    (λ c κs. search needs) (λ c. search needs) (λ c κs. search needs) part-requires-2 (λ c κs. search needs) (λ c. search needs)
     (λ c κs. search needs) returns-2)

@@ -20,9 +20,9 @@ pub record Ran (t : Text) (s : State) (q : Room) (old new : List ℕ) : Type 0 w
   pub puts : Puts (session t .0) (whole old) q old new
   pub state : s ≡ session t .1
 
--- up to position `at` the session is carried out, and command i comes next
-pub record Running (t : Text) (at i : ℕ) (s : State) (q : Room) (old new : List ℕ) : Type 0 where
-  pub listing : Partly (session t .0) (sessionOf i s (drop at t) .0) (whole old) q old new
-  pub state : sessionOf i s (drop at t) .1 ≡ session t .1
+-- the session of the text from position `start` on is carried out up to position `at`, and command i comes next
+pub record Running (t : Text) (start at i : ℕ) (s : State) (q : Room) (old new : List ℕ) : Type 0 where
+  pub listing : Partly (session (drop start t) .0) (sessionOf i s (drop at t) .0) (whole old) q old new
+  pub state : sessionOf i s (drop at t) .1 ≡ session (drop start t) .1
   pub inside : at ≤ length t
   pub numbered : i ≤ at + 1

@@ -3,7 +3,7 @@ use mathlib.Core.Bool.{Bool, false, true}
 use mathlib.Core.Bool.{not as notᵇ}
 use mathlib.Core.List.{List, _++_, append-nil}
 use mathlib.Core.Path.{_∙_, _≡_, ap, ap₂, subst, sym}
-use Prim.Native.Nat.{_*_, _+_, _-_, _<_, _≤_, suc, zero-le, ℕ}
+use Prim.Native.Nat.{_*_, _+_, _-_, _<_, _≤_, suc, ℕ}
 use native.Mathlib.Omega.{arith}
 use borrow.Author.Tests.{not-false, not-true}
 use lib.ListN.{drop, length, length-drop}
@@ -15,12 +15,12 @@ use Rattle.text.specs.Session.{State, fresh, session}
 use Rattle.session_run.specs.Ran.{Ran, Running, whole}
 use Rattle.session_step.specs.Stepped.{Stepped, sessionOf}
 
-pub running-start : (t : Text) (old : List ℕ) (s : State) → s ≡ fresh → Running t 0 1 s (whole old) old old
+pub running-start : (t : Text) (start : ℕ) (old : List ℕ) (s : State) → s ≡ fresh → start ≤ length t → Running t start start 1 s (whole old) old old
 unfolding session sessionOf
-running-start t old s f = record {
-  listing = partly-as (sym (ap (λ (z : State). sessionOf 1 z t .0) f)) (partly-start (session t .0) (whole old) old);
-  state = ap (λ (z : State). sessionOf 1 z t .1) f;
-  inside = zero-le;
+running-start t start old s f k = record {
+  listing = partly-as (sym (ap (λ (z : State). sessionOf 1 z (drop start t) .0) f)) (partly-start (session (drop start t) .0) (whole old) old);
+  state = ap (λ (z : State). sessionOf 1 z (drop start t) .1) f;
+  inside = k;
   numbered = omega arith;
 }
 
@@ -29,14 +29,14 @@ pub on-rest : {u v : Text} → u ≡ v → {i e : ℕ} {s s′ : State} {q r : R
     → Stepped i u s s′ q r now new more e → Stepped i v s s′ q r now new more e
 on-rest w {i} {e} {s} {s′} {q} {r} {now} {new} {more} d = subst (λ (x : Text). Stepped i x s s′ q r now new more e) w d
 
-module _ {t : Text} {at i e : ℕ} {s s′ : State} {q r : Room} {old now new : List ℕ} {more : Bool} (u : Running t at i s q old now)
+module _ {t : Text} {start at i e : ℕ} {s s′ : State} {q r : Room} {old now new : List ℕ} {more : Bool} (u : Running t start at i s q old now)
     (d : Stepped i (drop at t) s s′ q r now new more e) where
   pub forward : notᵇ more ≡ false → (0 < e) × (at + e ≤ length t)
   forward h =
       let m = not-false more h in let a = d .onward m in let b = d .inside m in let l = length-drop at t in let k = u .inside in
       (a, omega arith)
 
-  pub running-on : {f : ℕ} → f ≡ at + e → notᵇ more ≡ false → Running t f (i + 1) s′ r old new
+  pub running-on : {f : ℕ} → f ≡ at + e → notᵇ more ≡ false → Running t start f (i + 1) s′ r old new
   running-on {f} behind h =
       let m = not-false more h in
       let g = d .goes-on m in
@@ -53,7 +53,7 @@ module _ {t : Text} {at i e : ℕ} {s s′ : State} {q r : Room} {old now new : 
   pub running-less : {f : ℕ} → f ≡ at + e → notᵇ more ≡ false → length t - f < length t - at
   running-less behind h = let a = forward h .0 in let b = forward h .1 in omega (arith, behind)
 
-  pub ran : notᵇ more ≡ true → Ran t s′ r old new
+  pub ran : notᵇ more ≡ true → Ran (drop start t) s′ r old new
   ran h =
       let g = d .ends (not-true more h) in
       record {

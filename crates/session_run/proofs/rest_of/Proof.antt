@@ -38,17 +38,17 @@ use denote.Triple.Table.{entered, cited}
 use denote.Triple.Walked.{says, needs, Stays, stay-none, stay-none-slice, walkOf, goes-none, goes-none-slice, Walks, ends-at, walked, walk-meets}
 use denote.Exit.{yes}
 use denote.Triple.Clauses.{ensured, lasts}
-use Rattle.reader.specs.declared.Reader.{Reader}
-use Rattle.reader.proofs.Reader as T
-use Rattle.reader.proofs.Reader.Laws as T′
-use Rattle.reader.proofs.Reader.rest as rest
-use Rattle.reader.proofs.Reader.rest.Symbol as rest-def
-use Rattle.reader.proofs.Reader.rest.Symbol.{name as #reader·Reader·rest}
-use Rattle.reader.proofs.Reader.rest.Met as rest-thm
-use Rattle.reader.proofs.rest_of.Key.{name as #reader·rest-of}
-use Rattle.reader.proofs.rest_of as rest-of
-use Rattle.reader.proofs.rest_of.Statement as stated
-use Rattle.reader.proofs.rest_of.Code as code
+use Rattle.session_run.specs.declared.Reader.{Reader}
+use Rattle.session_run.proofs.Reader as T
+use Rattle.session_run.proofs.Reader.Laws as T′
+use Rattle.session_run.proofs.Reader.rest as rest
+use Rattle.session_run.proofs.Reader.rest.Symbol as rest-def
+use Rattle.session_run.proofs.Reader.rest.Symbol.{name as #session-run·Reader·rest}
+use Rattle.session_run.proofs.Reader.rest.Met as rest-thm
+use Rattle.session_run.proofs.rest_of.Key.{name as #session-run·rest-of}
+use Rattle.session_run.proofs.rest_of as rest-of
+use Rattle.session_run.proofs.rest_of.Statement as stated
+use Rattle.session_run.proofs.rest_of.Code as code
 
 -- the struct's type, over the signature's lifetimes
 abbrev B : Lfts 1 → RattleType
@@ -118,7 +118,7 @@ module _ {M : Type 1} (𝓤 : URA M) (H : Heap 𝓤) (A : Atoms 𝓤) (W : Given
       suffices ! _ (ends-at 𝓤 H A rest-of.ended stayed (rest-of.clauses 𝓤 H A mem run) W (((κ, tt), (q, tt), tt, (s, (n, tt)), at), tt) u r (tt, (tt, tt)) (tt, (tt, tt))) $ says ! e $
       move ! (1 ∷ []) $ frame ! $ nothing ! $ owned ! usize (Is usize) (uint-makes 𝓤 H A W w64) n _ (refl, ok) $ fjoin ! $ move ! (2 ∷ 0 ∷ []) $ fjoin ! $ frame ! $ done !
 
-  module _ (C : Calls 𝓤 H) (Λ : Loops 𝓤 H) (fm : FmC 𝓤 H (W .laws) C) (known : Triple 𝓤 (C #reader·Reader·rest) (Rest 𝓤 H A mem run)) where
+  module _ (C : Calls 𝓤 H) (Λ : Loops 𝓤 H) (fm : FmC 𝓤 H (W .laws) C) (known : Triple 𝓤 (C #session-run·Reader·rest) (Rest 𝓤 H A mem run)) where
     walk : Is Sl s (v ∷ []) → ent 𝓤 (onEntry 𝓤 H A rest-of.signature (κ, tt) (q, tt) (s, (n, tt)) at) (WpFn 𝓤 H C Λ code.function (v ∷ vint w64 n ∷ []) Post)
     walk p =
         qed W (raw (onEntry 𝓤 H A rest-of.signature (κ, tt) (q, tt) (s, (n, tt)) at) ∷ []) ∵ enter ! C Λ code.function (v ∷ vint w64 n ∷ []) _ $
@@ -135,13 +135,13 @@ module _ {M : Type 1} (𝓤 : URA M) (H : Heap 𝓤) (A : Atoms 𝓤) (W : Given
         move ! (9 ∷ 10 ∷ []) $ free1 ! $ move ! (7 ∷ 8 ∷ []) $ free1 ! $ move ! (5 ∷ 6 ∷ []) $ free1 ! $ move ! (3 ∷ 4 ∷ []) $ free1 ! $ free0 ! $ by ! (exits r u e)))))))))
 
 module _ {M : Type 1} (𝓤 : URA M) (H : Heap 𝓤) (A : Atoms 𝓤) (W : Given 𝓤 H A) (mem : Memory → SProp 𝓤) (run : Routine → Fun 𝓤) where
-  rest-of-walks : (C : Calls 𝓤 H) (Λ : Loops 𝓤 H) → FmC 𝓤 H (W .laws) C → Triple 𝓤 (C #reader·Reader·rest) (Rest 𝓤 H A mem run)
+  rest-of-walks : (C : Calls 𝓤 H) (Λ : Loops 𝓤 H) → FmC 𝓤 H (W .laws) C → Triple 𝓤 (C #session-run·Reader·rest) (Rest 𝓤 H A mem run)
       → Walks 𝓤 H A rest-of.ended stayed (WpFn 𝓤 H C Λ code.function) (rest-of.clauses 𝓤 H A mem run)
   rest-of-walks C Λ fm known = walked 𝓤 H A rest-of.ended stayed (rest-of.clauses 𝓤 H A mem run) (WpFn 𝓤 H C Λ code.function) (λ κs. (slice-vals, (uint-vals w64, tt))) (λ κs. (shr-slice-tells (named 0) (κs .0) u8, (uint-tells w64, tt)))
       (λ κs qs bounds a g are. needs 𝓤 _ _ (λ inside. walk 𝓤 H A W mem run (κs .0) (qs .0) (a .0) (a .1 .0) (are .1 .0 .1) inside C Λ fm known (are .0)))
 
 rest-of-meets : {M : Type 1} (𝓤 : URA M) (H : Heap 𝓤) (A : Atoms 𝓤) (W : Given 𝓤 H A) (mem : Memory → SProp 𝓤) (run : Routine → Fun 𝓤) (𝓣 : Tables 𝓤 H)
-    → Triple 𝓤 (𝓣 .C #reader·Reader·rest) (Rest 𝓤 H A mem run)
+    → Triple 𝓤 (𝓣 .C #session-run·Reader·rest) (Rest 𝓤 H A mem run)
     → Meets 𝓤 H A rest-of.signature (WpFn 𝓤 H (𝓣 .C) (𝓣 .Λ) code.function) (rest-of.spec 𝓤 H A mem run)
 rest-of-meets 𝓤 H A W mem run 𝓣 known = walk-meets 𝓤 H A rest-of.ended stayed W (goes-none-slice 𝓤 H A W 1 (0 ∷ []) tt (plain (λ _. u8)) yes, (goes-none 𝓤 H A W 1 (λ _. usize) yes (λ κs x f. refl), tt)) (rest-of.clauses 𝓤 H A mem run) (WpFn 𝓤 H (𝓣 .C) (𝓣 .Λ) code.function) (WpFn-mono 𝓤 H (W .laws) 𝓣 code.function)
     (rest-of-walks 𝓤 H A W mem run (𝓣 .C) (𝓣 .Λ) (fmOf 𝓤 H (W .laws) 𝓣) known)
@@ -150,6 +150,6 @@ pub rest-of-spec : {M : Type 1} → stated.statement M
 unfolding code.routine tablesOf
 rest-of-spec 𝓤 H 𝓜 𝓖 𝓡 =
     entered 𝓤 H (tripleOf 𝓤 H (𝓖 .A) rest-of.signature (rest-of.spec 𝓤 H (𝓖 .A) (𝓜 .mem) (𝓡 .run)))
-    (tables 𝓤 H 𝓜 𝓡 code.env .C) (tables 𝓤 H 𝓜 𝓡 code.env .Λ) #reader·rest-of code.function (code.unfolded 𝓤 H 𝓜 𝓡)
+    (tables 𝓤 H 𝓜 𝓡 code.env .C) (tables 𝓤 H 𝓜 𝓡 code.env .Λ) #session-run·rest-of code.function (code.unfolded 𝓤 H 𝓜 𝓡)
     (rest-of-meets 𝓤 H (𝓖 .A) (givenOf 𝓤 H 𝓜 𝓖) (𝓜 .mem) (𝓡 .run) (tablesOf 𝓤 H 𝓜 (tables 𝓤 H 𝓜 𝓡 code.env))
-    (cited 𝓤 H (Rest 𝓤 H (𝓖 .A) (𝓜 .mem) (𝓡 .run)) 𝓜 𝓡 code.env #reader·Reader·rest rest-def.routine code.calls-reader·Reader·rest (rest-thm.met 𝓤 H 𝓜 𝓖 𝓡)))
+    (cited 𝓤 H (Rest 𝓤 H (𝓖 .A) (𝓜 .mem) (𝓡 .run)) 𝓜 𝓡 code.env #session-run·Reader·rest rest-def.routine code.calls-session-run·Reader·rest (rest-thm.met 𝓤 H 𝓜 𝓖 𝓡)))

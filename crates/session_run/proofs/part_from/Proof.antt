@@ -1,8 +1,8 @@
 use borrow.Author.Needs.{needs}
 use denote.Ref.{now}
 use Rattle.seqs.specs.RestLaws.{rest-is}
-use Rattle.reader.proofs.part_from.Statement.{statement}
-use Rattle.reader.proofs.part_from.Tie as tie
+use Rattle.session_run.proofs.part_from.Statement.{statement}
+use Rattle.session_run.proofs.part_from.Tie as tie
 
 pub part-from-spec : {M : Type 1} → statement M
 part-from-spec = tie.close

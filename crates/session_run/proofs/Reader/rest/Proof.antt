@@ -41,17 +41,17 @@ use denote.Triple.Table.{entered, cited}
 use denote.Triple.Walked.{says, needs, Stays, stay-none, walkOf, goes-none, Walks, ends-at, walked, walk-meets}
 use denote.Exit.{yes}
 use denote.Triple.Clauses.{ensured, lasts}
-use Rattle.reader.specs.declared.Reader.{Reader}
-use Rattle.reader.proofs.Reader as T
-use Rattle.reader.proofs.Reader.Laws as T′
-use Rattle.reader.proofs.part_from as part
-use Rattle.reader.proofs.part_from.Symbol as part-def
-use Rattle.reader.proofs.part_from.Symbol.{name as #reader·part-from}
-use Rattle.reader.proofs.part_from.Met as part-thm
-use Rattle.reader.proofs.Reader.rest.Key.{name as #reader·Reader·rest}
-use Rattle.reader.proofs.Reader.rest as reads
-use Rattle.reader.proofs.Reader.rest.Statement as stated
-use Rattle.reader.proofs.Reader.rest.Code as code
+use Rattle.session_run.specs.declared.Reader.{Reader}
+use Rattle.session_run.proofs.Reader as T
+use Rattle.session_run.proofs.Reader.Laws as T′
+use Rattle.session_run.proofs.part_from as part
+use Rattle.session_run.proofs.part_from.Symbol as part-def
+use Rattle.session_run.proofs.part_from.Symbol.{name as #session-run·part-from}
+use Rattle.session_run.proofs.part_from.Met as part-thm
+use Rattle.session_run.proofs.Reader.rest.Key.{name as #session-run·Reader·rest}
+use Rattle.session_run.proofs.Reader.rest as reads
+use Rattle.session_run.proofs.Reader.rest.Statement as stated
+use Rattle.session_run.proofs.Reader.rest.Code as code
 
 -- the struct's type, over the signature's lifetimes
 abbrev B : Lfts 1 → RattleType
@@ -126,7 +126,7 @@ module _ {M : Type 1} (𝓤 : URA M) (H : Heap 𝓤) (A : Atoms 𝓤) (W : Given
       suffices ! _ (ends-at 𝓤 H A reads.ended stayed (reads.clauses 𝓤 H A mem run) W (((κ, tt), (q, tt), tt, (d, tt), (mach ∷ [], tt)), tt) u r (tt, tt) (tt, tt)) $ says ! e $
       move ! (1 ∷ []) $ frame ! $ nothing ! $ move ! (2 ∷ 0 ∷ []) $ fjoin ! $ frame ! $ done !
 
-  module _ (C : Calls 𝓤 H) (Λ : Loops 𝓤 H) (fm : FmC 𝓤 H (W .laws) C) (known : Triple 𝓤 (C #reader·part-from) (PartFrom 𝓤 H A mem run)) where
+  module _ (C : Calls 𝓤 H) (Λ : Loops 𝓤 H) (fm : FmC 𝓤 H (W .laws) C) (known : Triple 𝓤 (C #session-run·part-from) (PartFrom 𝓤 H A mem run)) where
     walk : Holds (hasTy (T′.mir (named 0)) mach) × WT mach → ent 𝓤 (onEntry 𝓤 H A reads.signature (κ, tt) (q, tt) (d, tt) (mach ∷ [], tt)) (WpFn 𝓤 H C Λ code.function (mach ∷ []) Post)
     walk wt =
         qed W (raw (onEntry 𝓤 H A reads.signature (κ, tt) (q, tt) (d, tt) (mach ∷ [], tt)) ∷ []) ∵ enter ! C Λ code.function (mach ∷ []) _ $
@@ -144,13 +144,13 @@ module _ {M : Type 1} (𝓤 : URA M) (H : Heap 𝓤) (A : Atoms 𝓤) (W : Given
         move ! (9 ∷ 10 ∷ []) $ free1 ! $ move ! (7 ∷ 8 ∷ []) $ free1 ! $ move ! (5 ∷ 6 ∷ []) $ free1 ! $ move ! (3 ∷ 4 ∷ []) $ free1 ! $ free0 ! $ by ! (exits r u e)))))))))
 
 module _ {M : Type 1} (𝓤 : URA M) (H : Heap 𝓤) (A : Atoms 𝓤) (W : Given 𝓤 H A) (mem : Memory → SProp 𝓤) (run : Routine → Fun 𝓤) where
-  rest-walks : (C : Calls 𝓤 H) (Λ : Loops 𝓤 H) → FmC 𝓤 H (W .laws) C → Triple 𝓤 (C #reader·part-from) (PartFrom 𝓤 H A mem run)
+  rest-walks : (C : Calls 𝓤 H) (Λ : Loops 𝓤 H) → FmC 𝓤 H (W .laws) C → Triple 𝓤 (C #session-run·part-from) (PartFrom 𝓤 H A mem run)
       → Walks 𝓤 H A reads.ended stayed (WpFn 𝓤 H C Λ code.function) (reads.clauses 𝓤 H A mem run)
   rest-walks C Λ fm known = walked 𝓤 H A reads.ended stayed (reads.clauses 𝓤 H A mem run) (WpFn 𝓤 H C Λ code.function) (λ κs. (LL.vals (T.the-type (namedLft 1 0 tt κs)) (T′.the-laws (namedLft 1 0 tt κs)), tt)) (λ κs. (LL.tells (T.the-type (namedLft 1 0 tt κs)) (T′.the-laws (namedLft 1 0 tt κs)), tt))
       (λ κs qs bounds a g are. needs 𝓤 _ _ (λ inside. walk 𝓤 H A W mem run (κs .0) (qs .0) (a .0) inside C Λ fm known (LL.lawful (T.the-type (namedLft 1 0 tt κs)) (T′.the-laws (namedLft 1 0 tt κs)) 𝓤 H A W .typed (a .0) _ (are .0) .0)))
 
 rest-meets : {M : Type 1} (𝓤 : URA M) (H : Heap 𝓤) (A : Atoms 𝓤) (W : Given 𝓤 H A) (mem : Memory → SProp 𝓤) (run : Routine → Fun 𝓤) (𝓣 : Tables 𝓤 H)
-    → Triple 𝓤 (𝓣 .C #reader·part-from) (PartFrom 𝓤 H A mem run)
+    → Triple 𝓤 (𝓣 .C #session-run·part-from) (PartFrom 𝓤 H A mem run)
     → Meets 𝓤 H A reads.signature (WpFn 𝓤 H (𝓣 .C) (𝓣 .Λ) code.function) (reads.spec 𝓤 H A mem run)
 rest-meets 𝓤 H A W mem run 𝓣 known = walk-meets 𝓤 H A reads.ended stayed W (goes-none 𝓤 H A W 1 B yes (λ κs x f. refl), tt) (reads.clauses 𝓤 H A mem run) (WpFn 𝓤 H (𝓣 .C) (𝓣 .Λ) code.function) (WpFn-mono 𝓤 H (W .laws) 𝓣 code.function)
     (rest-walks 𝓤 H A W mem run (𝓣 .C) (𝓣 .Λ) (fmOf 𝓤 H (W .laws) 𝓣) known)
@@ -159,6 +159,6 @@ pub rest-spec : {M : Type 1} → stated.statement M
 unfolding code.routine tablesOf
 rest-spec 𝓤 H 𝓜 𝓖 𝓡 =
     entered 𝓤 H (tripleOf 𝓤 H (𝓖 .A) reads.signature (reads.spec 𝓤 H (𝓖 .A) (𝓜 .mem) (𝓡 .run)))
-    (tables 𝓤 H 𝓜 𝓡 code.env .C) (tables 𝓤 H 𝓜 𝓡 code.env .Λ) #reader·Reader·rest code.function (code.unfolded 𝓤 H 𝓜 𝓡)
+    (tables 𝓤 H 𝓜 𝓡 code.env .C) (tables 𝓤 H 𝓜 𝓡 code.env .Λ) #session-run·Reader·rest code.function (code.unfolded 𝓤 H 𝓜 𝓡)
     (rest-meets 𝓤 H (𝓖 .A) (givenOf 𝓤 H 𝓜 𝓖) (𝓜 .mem) (𝓡 .run) (tablesOf 𝓤 H 𝓜 (tables 𝓤 H 𝓜 𝓡 code.env))
-    (cited 𝓤 H (PartFrom 𝓤 H (𝓖 .A) (𝓜 .mem) (𝓡 .run)) 𝓜 𝓡 code.env #reader·part-from part-def.routine code.calls-reader·part-from (part-thm.met 𝓤 H 𝓜 𝓖 𝓡)))
+    (cited 𝓤 H (PartFrom 𝓤 H (𝓖 .A) (𝓜 .mem) (𝓡 .run)) 𝓜 𝓡 code.env #session-run·part-from part-def.routine code.calls-session-run·part-from (part-thm.met 𝓤 H 𝓜 𝓖 𝓡)))

@@ -40,17 +40,17 @@ use denote.Triple.Table.{entered, cited}
 use denote.Triple.Walked.{says, needs, Stays, stay-none, stay-none-slice, walkOf, goes-none, goes-none-slice, Walks, ends-at, walked, walk-meets}
 use denote.Exit.{yes}
 use denote.Triple.Clauses.{ensured, lasts}
-use Rattle.reader.specs.declared.Reader.{Reader}
-use Rattle.reader.proofs.Reader as T
-use Rattle.reader.proofs.Reader.Laws as T′
-use Rattle.reader.proofs.Reader.behind as behind
-use Rattle.reader.proofs.Reader.behind.Symbol as behind-def
-use Rattle.reader.proofs.Reader.behind.Symbol.{name as #reader·Reader·behind}
-use Rattle.reader.proofs.Reader.behind.Met as behind-thm
-use Rattle.reader.proofs.position_behind.Key.{name as #reader·position-behind}
-use Rattle.reader.proofs.position_behind as position
-use Rattle.reader.proofs.position_behind.Statement as stated
-use Rattle.reader.proofs.position_behind.Code as code
+use Rattle.session_run.specs.declared.Reader.{Reader}
+use Rattle.session_run.proofs.Reader as T
+use Rattle.session_run.proofs.Reader.Laws as T′
+use Rattle.session_run.proofs.Reader.behind as behind
+use Rattle.session_run.proofs.Reader.behind.Symbol as behind-def
+use Rattle.session_run.proofs.Reader.behind.Symbol.{name as #session-run·Reader·behind}
+use Rattle.session_run.proofs.Reader.behind.Met as behind-thm
+use Rattle.session_run.proofs.position_behind.Key.{name as #session-run·position-behind}
+use Rattle.session_run.proofs.position_behind as position
+use Rattle.session_run.proofs.position_behind.Statement as stated
+use Rattle.session_run.proofs.position_behind.Code as code
 
 -- the struct's type, over the signature's lifetimes
 abbrev B : Lfts 1 → RattleType
@@ -129,7 +129,7 @@ module _ {M : Type 1} (𝓤 : URA M) (H : Heap 𝓤) (A : Atoms 𝓤) (W : Given
       frame ! $ nothing ! $ owned ! usize (Is usize) (uint-makes 𝓤 H A W w64) n _ (refl, n-fits) $ fjoin ! $ owned ! usize (Is usize) (uint-makes 𝓤 H A W w64) p _ (refl, p-fits) $ fjoin ! $ move ! (1 ∷ 0 ∷ []) $ fjoin ! $ frame ! $
       owned ! usize (Is usize) (uint-makes 𝓤 H A W w64) m _ (refl, fits) $ done !
 
-  module _ (C : Calls 𝓤 H) (Λ : Loops 𝓤 H) (fm : FmC 𝓤 H (W .laws) C) (known : Triple 𝓤 (C #reader·Reader·behind) (Behind 𝓤 H A mem run)) where
+  module _ (C : Calls 𝓤 H) (Λ : Loops 𝓤 H) (fm : FmC 𝓤 H (W .laws) C) (known : Triple 𝓤 (C #session-run·Reader·behind) (Behind 𝓤 H A mem run)) where
     walk : Is Sl s (v ∷ []) → ent 𝓤 (onEntry 𝓤 H A position.signature (κ, tt) (q, tt) (s, (p, (n, tt))) at) (WpFn 𝓤 H C Λ code.function (v ∷ vint w64 p ∷ vint w64 n ∷ []) Post)
     walk holds =
         qed W (raw (onEntry 𝓤 H A position.signature (κ, tt) (q, tt) (s, (p, (n, tt))) at) ∷ []) ∵ enter ! C Λ code.function (v ∷ vint w64 p ∷ vint w64 n ∷ []) _ $
@@ -150,13 +150,13 @@ module _ {M : Type 1} (𝓤 : URA M) (H : Heap 𝓤) (A : Atoms 𝓤) (W : Given
         drop ! $ by ! (exits (r .at) (LL.owed (T.the-type α) (T′.the-laws α) r _ is .1 .0 .1) (e .1))))))))))))
 
 module _ {M : Type 1} (𝓤 : URA M) (H : Heap 𝓤) (A : Atoms 𝓤) (W : Given 𝓤 H A) (mem : Memory → SProp 𝓤) (run : Routine → Fun 𝓤) where
-  position-walks : (C : Calls 𝓤 H) (Λ : Loops 𝓤 H) → FmC 𝓤 H (W .laws) C → Triple 𝓤 (C #reader·Reader·behind) (Behind 𝓤 H A mem run)
+  position-walks : (C : Calls 𝓤 H) (Λ : Loops 𝓤 H) → FmC 𝓤 H (W .laws) C → Triple 𝓤 (C #session-run·Reader·behind) (Behind 𝓤 H A mem run)
       → Walks 𝓤 H A position.ended stayed (WpFn 𝓤 H C Λ code.function) (position.clauses 𝓤 H A mem run)
   position-walks C Λ fm known = walked 𝓤 H A position.ended stayed (position.clauses 𝓤 H A mem run) (WpFn 𝓤 H C Λ code.function) (λ κs. (slice-vals, (uint-vals w64, (uint-vals w64, tt)))) (λ κs. (shr-slice-tells (named 0) (κs .0) u8, (uint-tells w64, (uint-tells w64, tt))))
       (λ κs qs bounds a g are. needs 𝓤 _ _ (λ inside. walk 𝓤 H A W mem run (κs .0) (qs .0) (a .0) (a .1 .0) (a .1 .1 .0) (are .1 .0 .1) (are .1 .1 .0 .1) inside C Λ fm known (are .0)))
 
 position-meets : {M : Type 1} (𝓤 : URA M) (H : Heap 𝓤) (A : Atoms 𝓤) (W : Given 𝓤 H A) (mem : Memory → SProp 𝓤) (run : Routine → Fun 𝓤) (𝓣 : Tables 𝓤 H)
-    → Triple 𝓤 (𝓣 .C #reader·Reader·behind) (Behind 𝓤 H A mem run)
+    → Triple 𝓤 (𝓣 .C #session-run·Reader·behind) (Behind 𝓤 H A mem run)
     → Meets 𝓤 H A position.signature (WpFn 𝓤 H (𝓣 .C) (𝓣 .Λ) code.function) (position.spec 𝓤 H A mem run)
 position-meets 𝓤 H A W mem run 𝓣 known =
     walk-meets 𝓤 H A position.ended stayed W (goes-none-slice 𝓤 H A W 1 (0 ∷ []) tt (plain (λ _. u8)) yes, (goes-none 𝓤 H A W 1 (λ _. usize) yes (λ κs x f. refl), (goes-none 𝓤 H A W 1 (λ _. usize) yes (λ κs x f. refl), tt)))
@@ -166,6 +166,6 @@ pub position-behind-spec : {M : Type 1} → stated.statement M
 unfolding code.routine tablesOf
 position-behind-spec 𝓤 H 𝓜 𝓖 𝓡 =
     entered 𝓤 H (tripleOf 𝓤 H (𝓖 .A) position.signature (position.spec 𝓤 H (𝓖 .A) (𝓜 .mem) (𝓡 .run)))
-    (tables 𝓤 H 𝓜 𝓡 code.env .C) (tables 𝓤 H 𝓜 𝓡 code.env .Λ) #reader·position-behind code.function (code.unfolded 𝓤 H 𝓜 𝓡)
+    (tables 𝓤 H 𝓜 𝓡 code.env .C) (tables 𝓤 H 𝓜 𝓡 code.env .Λ) #session-run·position-behind code.function (code.unfolded 𝓤 H 𝓜 𝓡)
     (position-meets 𝓤 H (𝓖 .A) (givenOf 𝓤 H 𝓜 𝓖) (𝓜 .mem) (𝓡 .run) (tablesOf 𝓤 H 𝓜 (tables 𝓤 H 𝓜 𝓡 code.env))
-    (cited 𝓤 H (Behind 𝓤 H (𝓖 .A) (𝓜 .mem) (𝓡 .run)) 𝓜 𝓡 code.env #reader·Reader·behind behind-def.routine code.calls-reader·Reader·behind (behind-thm.met 𝓤 H 𝓜 𝓖 𝓡)))
+    (cited 𝓤 H (Behind 𝓤 H (𝓖 .A) (𝓜 .mem) (𝓡 .run)) 𝓜 𝓡 code.env #session-run·Reader·behind behind-def.routine code.calls-session-run·Reader·behind (behind-thm.met 𝓤 H 𝓜 𝓖 𝓡)))

@@ -37,13 +37,13 @@ use denote.Triple.Spec.{Meets, tripleOf}
 use denote.Triple.Table.{entered}
 use denote.Triple.Walked.{says, needs, Stays, stay-none, walkOf, goes-none, Walks, ends-at, walked, walk-meets}
 use denote.Exit.{yes}
-use Rattle.reader.specs.declared.Reader.{Reader}
-use Rattle.reader.proofs.Reader as T
-use Rattle.reader.proofs.Reader.Laws as T′
-use Rattle.reader.proofs.Reader.behind.Key.{name as #reader·Reader·behind}
-use Rattle.reader.proofs.Reader.behind as behind
-use Rattle.reader.proofs.Reader.behind.Statement as stated
-use Rattle.reader.proofs.Reader.behind.Code as code
+use Rattle.session_run.specs.declared.Reader.{Reader}
+use Rattle.session_run.proofs.Reader as T
+use Rattle.session_run.proofs.Reader.Laws as T′
+use Rattle.session_run.proofs.Reader.behind.Key.{name as #session-run·Reader·behind}
+use Rattle.session_run.proofs.Reader.behind as behind
+use Rattle.session_run.proofs.Reader.behind.Statement as stated
+use Rattle.session_run.proofs.Reader.behind.Code as code
 
 -- the struct's type, over the signature's lifetimes
 abbrev B : Lfts 1 → RattleType
@@ -103,5 +103,5 @@ pub behind-spec : {M : Type 1} → stated.statement M
 unfolding code.routine tablesOf
 behind-spec 𝓤 H 𝓜 𝓖 𝓡 =
     entered 𝓤 H (tripleOf 𝓤 H (𝓖 .A) behind.signature (behind.spec 𝓤 H (𝓖 .A) (𝓜 .mem) (𝓡 .run)))
-    (tables 𝓤 H 𝓜 𝓡 code.env .C) (tables 𝓤 H 𝓜 𝓡 code.env .Λ) #reader·Reader·behind code.function (code.unfolded 𝓤 H 𝓜 𝓡)
+    (tables 𝓤 H 𝓜 𝓡 code.env .C) (tables 𝓤 H 𝓜 𝓡 code.env .Λ) #session-run·Reader·behind code.function (code.unfolded 𝓤 H 𝓜 𝓡)
     (behind-meets 𝓤 H (𝓖 .A) (givenOf 𝓤 H 𝓜 𝓖) (𝓜 .mem) (𝓡 .run) (tablesOf 𝓤 H 𝓜 (tables 𝓤 H 𝓜 𝓡 code.env)))

@@ -1,5 +1,5 @@
 # Sourced by the tests, at the top of the repository: the proved program and library, proved and built where that is not done yet.
-# SESSION and SVCD_LIB name others, to try the tests themselves.
+# SESSION, SVCD_LIB and BENCH_HOST_LIB name others, to try the tests themselves.
 
 # Runs a command, and shows what it wrote only where it fails.
 quietly() {
@@ -19,13 +19,16 @@ find_program() {
     fi
 }
 
-# Sets `library` to the folder of libsvcd.a. One that is newer than every file of the crates is the one that `rt staticlib` would write.
+# find_library [CRATE]: sets `library` to the folder of the library of the crate, libsvcd.a without one. A library that is newer than every
+# file of the crates is the one that `rt staticlib` would write.
 find_library() {
-    library=${SVCD_LIB:-}
+    local crate=${1:-svcd}
+    local named=${crate^^}_LIB
+    library=${!named:-}
     if [ -z "$library" ]; then
         library=$PWD/target/staticlib
-        if [ ! -f "$library/libsvcd.a" ] || [ -n "$(find crates crates.txt -newer "$library/libsvcd.a" -print -quit)" ]; then
-            quietly rt staticlib svcd
+        if [ ! -f "$library/lib$crate.a" ] || [ -n "$(find crates crates.txt -newer "$library/lib$crate.a" -print -quit)" ]; then
+            quietly rt staticlib "$crate"
         fi
     fi
 }
@@ -50,8 +53,15 @@ prints() {
     "$3" < "$2" | cmp -s - "$1"
 }
 
-# The last line of a test, and its verdict.
+# add_counts LOG: counts what the last line of a log counts, 'N passed, M failed'; fails without such a line.
+add_counts() {
+    [[ $(tail -n 1 "$1") =~ ^([0-9]+)\ passed,\ ([0-9]+)\ failed$ ]] || return 1
+    passed=$((passed + BASH_REMATCH[1]))
+    failed=$((failed + BASH_REMATCH[2]))
+}
+
+# The last line of a test, and its verdict: a test that checked nothing fails.
 verdict() {
     echo "$passed passed, $failed failed"
-    [ "$failed" -eq 0 ]
+    [ "$failed" -eq 0 ] && [ "$passed" -gt 0 ]
 }

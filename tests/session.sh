@@ -50,8 +50,8 @@ if [ -z "${SESSION:-}" ]; then
     }
     says_how_far() {
         stands_for_rt "proved (3 s)" 0
-        PATH=$folder/bin:$PATH lists examples/teaching.txt
-        grep -qE '^session: 2 of [0-9]+ crates proved: model \(3 s\)$' "$folder/said" && ! grep -q sets "$folder/said"
+        PATH=$folder/bin:$PATH ./session examples/teaching.txt 2> "$folder/said" | cmp -s - examples/teaching.listing &&
+            grep -qE '^session: 2 of [0-9]+ crates proved: model \(3 s\)$' "$folder/said" && ! grep -q sets "$folder/said"
     }
     check "./session: how many crates are proved" says_how_far
     says_what_failed() {
@@ -71,9 +71,5 @@ compare() {
 }
 check "the comparison of seed $seed, $count sessions" compare
 sed '$d' "$log"
-last=$(tail -n 1 "$log")
-if [[ $last =~ ^([0-9]+)\ passed,\ ([0-9]+)\ failed$ ]]; then
-    passed=$((passed + BASH_REMATCH[1]))
-    failed=$((failed + BASH_REMATCH[2]))
-fi
+check "the comparison comes to its end" add_counts "$log"
 verdict

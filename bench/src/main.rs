@@ -2,6 +2,7 @@
 //! collections, in the same run.
 
 mod books;
+mod carried;
 mod cases;
 mod host;
 mod raw;
@@ -10,8 +11,8 @@ mod stack;
 mod timing;
 
 use books::VERSIONS;
+use carried::Carried;
 use cases::Case;
-use host::Carried;
 use plain::book::{Book, Pair};
 use plain::calls::Call;
 use raw::Raw;

@@ -3,15 +3,16 @@
 use plain::book::{bits, Book, Number};
 use std::collections::BTreeSet;
 
-const USABLE: usize = 32;
-const REQUIRES: usize = 64;
-const MEMBERS: usize = 320;
-const STANDARD: usize = 32;
-const VERSION: usize = 64;
-const IMPLEMENTATION: usize = 320;
-const MEMBER_VERSION: usize = 576;
-const FREE: u8 = 64;
+pub const USABLE: usize = 32;
+pub const REQUIRES: usize = 64;
+pub const MEMBERS: usize = 320;
+pub const STANDARD: usize = 32;
+pub const VERSION: usize = 64;
+pub const IMPLEMENTATION: usize = 320;
+pub const MEMBER_VERSION: usize = 576;
+pub const FREE: u8 = 64;
 
+#[derive(Clone, PartialEq, Eq)]
 pub struct Raw {
     pub sets: [u64; 576],
     pub numbers: [u8; 8768],

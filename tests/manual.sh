@@ -13,7 +13,8 @@ trap 'rm -rf "$folder"' EXIT
 awk -v folder="$folder" '
     /^```/ && kind != "" { close(file); kind = ""; next }
     /^```(session|c)$/ { kind = substr($0, 4); number++; file = sprintf("%s/%03d.%s", folder, number, kind); printf "" > file; next }
-    /^```listing$/ { kind = "listing"; file = sprintf("%s/%03d.listing", folder, number); printf "" > file; next }
+    /^```listing$/ && listed == number { print "a listing of nothing: line " NR; exit 1 }
+    /^```listing$/ { kind = "listing"; listed = number; file = sprintf("%s/%03d.listing", folder, number); printf "" > file; next }
     /^```/ { print "a block of another kind: " $0; exit 1 }
     kind != "" { print > file }
 ' docs/MANUAL.md

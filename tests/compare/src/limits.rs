@@ -35,13 +35,27 @@ pub fn longer_text() -> Checked {
     same(long_text((1 << 32) + 5), (-22, [0; 8]))
 }
 
-/// The longest slice takes a listing, and is touched nowhere else.
+/// Whether every byte is the mark.
+fn all_are(mark: u8, bytes: &[u8]) -> bool {
+    bytes.chunks(1 << 12).all(|part| part.iter().fold(0, |seen, byte| seen | (byte ^ mark)) == 0)
+}
+
+/// The longest slice takes a listing, and is touched nowhere else. Marks in all of its bytes would take two gigabytes of memory, so two
+/// slices are looked at whole. One has zeros, which take no memory while they are only read; what is written there is seen unless it is
+/// a 0. The other lies over a window of marks again and again, and there a 0 is seen too, wherever it is written.
 pub fn longest_slice() -> Checked {
-    let mut room = Fenced::new(MOST);
-    let slice = room.last(MOST);
-    same(host::session(b"undefined", slice), 4)?;
-    same(&slice[..6], b"1,0\n\0\0")?;
-    same(&slice[MOST - 6..], &[0; 6])
+    let mut zeros = Fenced::new(MOST);
+    let mut marks = Fenced::repeated(MOST, WINDOW);
+    let (zeros, marks) = (zeros.last(MOST), marks.last(MOST));
+    marks[..WINDOW].fill(MARK);
+    for (slice, mark, looked_at) in [(zeros, 0, MOST), (marks, MARK, WINDOW)] {
+        same(host::session(b"undefined", slice), 4)?;
+        same(&slice[..4], b"1,0\n")?;
+        if !all_are(mark, &slice[4..looked_at]) {
+            return Err(format!("a byte behind the listing is no longer {mark}"));
+        }
+    }
+    Ok(())
 }
 
 /// A slice one byte longer, whose bytes lie over a window again and again: the answer, and whether the window is zeros afterwards.
@@ -50,7 +64,7 @@ fn longer_slice_for(text: &[u8]) -> (i32, bool) {
     let slice = room.last(MOST + 1);
     slice[..WINDOW].fill(MARK);
     let answer = host::session(text, slice);
-    (answer, slice[..WINDOW].iter().all(|byte| *byte == 0))
+    (answer, all_are(0, &slice[..WINDOW]))
 }
 
 /// It is refused, though the listing has four bytes.

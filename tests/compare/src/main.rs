@@ -91,15 +91,15 @@ fn main() -> ExitCode {
         eprintln!("usage: compare PROGRAM STACK SEED COUNT FILE..");
         return ExitCode::from(2);
     };
-    let (Ok(stack), Ok(seed), Ok(sessions)) = (stack.parse(), seed.parse(), sessions.parse())
+    let (Ok(stack), Ok(seed), Ok(sessions @ 1..)) = (stack.parse(), seed.parse(), sessions.parse())
     else {
-        eprintln!("compare: STACK, SEED and COUNT are numbers");
+        eprintln!("compare: STACK, SEED and COUNT are numbers, COUNT 1 at least");
         return ExitCode::from(2);
     };
     let mut count = Count::default();
     let used: usize = count.stored(program, files);
     println!("{} stored texts; a call wrote on {used} bytes of stack at most", files.len());
-    let within = match used <= stack {
+    let within = match (1..=stack).contains(&used) {
         true => Ok(()),
         false => Err(format!("{used} bytes, and include/svcd.h says {stack}")),
     };

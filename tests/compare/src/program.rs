@@ -3,19 +3,19 @@
 use crate::check::Checked;
 use plain::session::session;
 use std::io::Write;
-use std::process::{Command, Stdio};
+use std::process::{Command, Output, Stdio};
 
 /// "standard input, up to 65,536 bytes, with a slice of that size"
 const LIMIT: usize = 65_536;
 
-/// What the program writes. It may stop reading early, so a text that it does not take whole is no error.
-fn run(program: &str, text: &[u8]) -> std::io::Result<Vec<u8>> {
+/// What the program writes, and how it ends. It may stop reading early, so a text that it does not take whole is no error.
+fn run(program: &str, text: &[u8]) -> std::io::Result<Output> {
     let mut command = Command::new(program);
     let mut child = command.stdin(Stdio::piped()).stdout(Stdio::piped()).spawn()?;
     let input = child.stdin.take();
     std::thread::scope(|scope| {
         scope.spawn(move || input.map(|mut input| input.write_all(text)));
-        child.wait_with_output().map(|output| output.stdout)
+        child.wait_with_output()
     })
 }
 
@@ -30,9 +30,10 @@ pub fn expected(text: &[u8]) -> Vec<u8> {
 
 /// The program writes what the plain one does.
 pub fn check(program: &str, text: &[u8]) -> Checked {
-    let written = run(program, text).map_err(|error| format!("{program}: {error}"))?;
-    match written == expected(text) {
-        true => Ok(()),
-        false => Err(format!("{program} writes another listing")),
+    let output = run(program, text).map_err(|error| format!("{program}: {error}"))?;
+    match (output.status.success(), output.stdout == expected(text)) {
+        (true, true) => Ok(()),
+        (false, _) => Err(format!("{program}: {}", output.status)),
+        (true, false) => Err(format!("{program} writes another listing")),
     }
 }

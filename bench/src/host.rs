@@ -1,50 +1,14 @@
 //! The proved functions of crate `bench_host`, as a host calls them.
 
 use crate::carried::{wide, Carried};
+use crate::exports::{version_book_call, version_book_parts, version_book_test};
 use crate::raw::Raw;
 use plain::book::Pair;
-
-extern "C" {
-    fn version_book_test(sets: &[u64; 576], numbers: &[u8; 8768]) -> bool;
-    fn version_book_call(
-        sets: &[u64; 576],
-        numbers: &[u8; 8768],
-        kind: usize,
-        c: usize,
-        v: usize,
-        i: usize,
-        set: u64,
-        usable: *const usize,
-        usable_count: usize,
-        versions: *const usize,
-        versions_count: usize,
-        lengths: *const usize,
-        lengths_count: usize,
-        members: *const usize,
-        members_count: usize,
-        chosen: *const usize,
-        chosen_count: usize,
-        required: *const u64,
-        required_count: usize,
-        next_sets: &mut [u64; 576],
-        next_numbers: &mut [u8; 8768],
-    ) -> u8;
-    fn version_book_parts(
-        sets: &[u64; 576],
-        numbers: &[u8; 8768],
-        c: usize,
-        v: usize,
-        out: *mut u16,
-        out_count: usize,
-        rows: &mut usize,
-        depth: &mut usize,
-    ) -> u8;
-}
 
 /// The test for 25.
 pub fn test(raw: &Raw) -> bool {
     // SAFETY: the library only reads the two arrays, which are lent for the call.
-    unsafe { version_book_test(&raw.sets, &raw.numbers) }
+    unsafe { version_book_test(raw.sets.as_ptr(), raw.numbers.as_ptr()) }
 }
 
 impl Carried {
@@ -54,8 +18,8 @@ impl Carried {
         // them.
         unsafe {
             version_book_call(
-                &raw.sets,
-                &raw.numbers,
+                raw.sets.as_ptr(),
+                raw.numbers.as_ptr(),
                 self.kind,
                 self.c,
                 self.v,
@@ -73,8 +37,8 @@ impl Carried {
                 self.chosen.len(),
                 self.required.as_ptr(),
                 self.required.len(),
-                &mut next.sets,
-                &mut next.numbers,
+                next.sets.as_mut_ptr(),
+                next.numbers.as_mut_ptr(),
             )
         }
     }
@@ -93,7 +57,7 @@ pub fn parts(raw: &Raw, (component, version): Pair, out: &mut [u16]) -> Listed {
     // SAFETY: the library reads the two arrays, writes the slice and the two numbers, and keeps none of them.
     let answer = unsafe {
         let (c, v) = (wide(component), wide(version));
-        let (sets, numbers) = (&raw.sets, &raw.numbers);
+        let (sets, numbers) = (raw.sets.as_ptr(), raw.numbers.as_ptr());
         version_book_parts(sets, numbers, c, v, out.as_mut_ptr(), out.len(), &mut rows, &mut depth)
     };
     Listed { answer, rows, depth }

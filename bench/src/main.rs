@@ -4,6 +4,8 @@
 mod books;
 mod carried;
 mod cases;
+#[allow(dead_code)]
+mod exports;
 mod host;
 mod raw;
 mod sessions;

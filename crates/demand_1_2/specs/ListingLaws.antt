@@ -8,8 +8,8 @@ use native.Mathlib.Nat.{le-refl}
 use native.Mathlib.Omega.{arith}
 use lib.ListN.{drop, length, length-append, length-drop, length-replicate, take}
 use lib.Seq.{drop-at, take-at}
-use Rattle.sets.specs.TestLaws.{<?-no, <?-out, bool?}
-use Rattle.sets.specs.Tests.{_&_, _<?_, _≤?_}
+use Rattle.sets.specs.TestLaws.{≤-or-<}
+use Rattle.sets.specs.Tests.{_&_, _≤?_}
 use Rattle.svcd.specs.Reached.{SessionCall}
 use Rattle.svcd.specs.declared.SessionEnd.{SessionEnd}
 use Rattle.text.specs.Bytes.{Text}
@@ -85,7 +85,7 @@ session-listing t = listed-from (length t) 1 fresh t (unfold fits _≤?_ _&_ in 
 
 module _ {t : Text} {old new : List ℕ} {r : SessionEnd} (k : SessionCall t old new r) where
   fits-or : (length (session t .0) ≤ length old) ⊎ (length old < length (session t .0))
-  fits-or = elim (bool? (length old <? length (session t .0))) [ inl y ↦ inr (<?-out _ _ y) | inr z ↦ inl (<?-no _ _ z) ]
+  fits-or = ≤-or-< _ _
 
   fits-if : r .answer ≡ 0 → length (session t .0) ≤ length old
   fits-if z = elim fits-or [ inl h ↦ h | inr h ↦ absurd (let e = too-long k h .0 in omega arith) ]

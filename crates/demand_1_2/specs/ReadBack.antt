@@ -10,8 +10,7 @@ use lib.Seq.{take-at}
 use Rattle.model.specs.Book.{isModule, isSystem, specified}
 use Rattle.model.specs.Lists.{from, ifFound, keep, rising}
 use Rattle.model.specs.Maps.{isSome}
-use Rattle.sets.specs.TestLaws.{<?-no, <?-out, bool?}
-use Rattle.sets.specs.Tests.{_<?_}
+use Rattle.sets.specs.TestLaws.{≤-or-<}
 use Rattle.names_test.specs.Answered.{TextCall, handed}
 use Rattle.names_test.specs.Demand.{answered-named, answered-text}
 use Rattle.names_test.specs.Demand as demand
@@ -60,9 +59,9 @@ module _ {s : State} (p : PassesNamed s) {slice after : List ℕ} {r : SessionEn
   back-exactly : (length (rowsBack s) ≤ length slice) ↔ Same (stateIn r) s
   back-exactly = (
     λ h. subst (λ (x : State). Same x s) (sym (q .state)) (reads-back-in s p slice h),
-    λ e. elim (bool? (length slice <? length (rowsBack s))) [
-      | inl y ↦ (let h = <?-out _ _ y in absurd (let n = none-same (subst (λ (x : State). Same x s) (short-refused h .3) e) in omega arith))
-      | inr z ↦ <?-no _ _ z
+    λ e. elim (≤-or-< (length (rowsBack s)) (length slice)) [
+      | inl h ↦ h
+      | inr h ↦ absurd (let n = none-same (subst (λ (x : State). Same x s) (short-refused h .3) e) in omega arith)
     ],
   )
 

@@ -1,7 +1,7 @@
 -- Demand 3 of the call for a parts list.
 use mathlib.Core.Bool.{true}
 use mathlib.Core.List.{List, [], _∷_}
-use mathlib.Core.Logic.{_⊎_, inl, inr}
+use mathlib.Core.Logic.{inl, inr}
 use mathlib.Core.Path.{_∙_, _≡_}
 use Prim.Native.Nat.{_<_, _≤_, ℕ}
 use native.Mathlib.Nat.{le-trans}
@@ -16,17 +16,11 @@ use Rattle.demand_3.specs.Demand.{PartsGiven}
 use Rattle.parts.specs.Listed.{Listed, partsAnswer, partsAsked}
 use Rattle.book_rules.specs.Test.{passes}
 use Rattle.book_rules.specs.TestLaws.{passes-plain}
-use Rattle.sets.specs.TestLaws.{<?-in, <?-no, <?-out, and-in, bool?, clash, fails, if-false, if-true, ≤?-in, ≤?-out}
-use Rattle.sets.specs.Tests.{_<?_, _≤?_}
+use Rattle.sets.specs.TestLaws.{<?-in, and-in, fails, if-false, if-true, ≤-or-<, ≤?-in, ≤?-out}
+use Rattle.sets.specs.Tests.{_≤?_}
 use Rattle.model_laws.specs.Good.{passes→good, version-specified}
 use Rattle.model_laws.specs.Parts.{pair-limits}
 use Rattle.model_laws.specs.Sequence.{passes-parts}
-
-≤-or-< : (m k : ℕ) → (m ≤ k) ⊎ (k < m)
-≤-or-< m k = elim (bool? (m ≤? k)) [
-  | inl t ↦ inl (≤?-out m k t)
-  | inr t ↦ inr (<?-out k m (elim (bool? (k <? m)) [ inl y ↦ y | inr y ↦ clash (≤?-in m k (<?-no k m y)) t ]))
-]
 
 -- of a stored version only question 22 is left
 module _ (s n : List ℕ) (c v room : ℕ) (good : passes s n ≡ true) (has-it : hasVersion (plainOf s n .specs) c v ≡ true) where

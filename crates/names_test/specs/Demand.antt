@@ -1,8 +1,8 @@
--- Demand 2 of the call for a text: what it writes reads back as the same book by names.
+-- Demand 2 of the call for a text: where it answers 0 or 22, what it has then written, and equal texts.
 use mathlib.Core.Bool.{false, true}
 use mathlib.Core.List.{List}
 use mathlib.Core.Logic.{_↔_, _⊎_, inl, inr}
-use mathlib.Core.Path.{_∙_, _≡_, ap₂, subst, sym}
+use mathlib.Core.Path.{_∙_, _≡_, ap₂, sym}
 use Prim.Native.Nat.{_≤_, ℕ}
 use native.Mathlib.Omega.{arith}
 use lib.ListN.{length, take}
@@ -12,13 +12,10 @@ use Rattle.book_rules.specs.TestLaws.{passes-plain, passes-proper, plain-passes
 use Rattle.seqs.specs.Filled.{filled}
 use Rattle.sets.specs.TestLaws.{==-in, and-in, and-l, and-r, bool?, if-false, if-true}
 use Rattle.sets.specs.Tests.{_≤?_}
-use Rattle.text.specs.Bytes.{Text as Bytes}
 use Rattle.text.specs.Handed.{PassesNamed}
-use Rattle.text.specs.LentSlice.{rowsBack, stateAfter}
 use Rattle.text.specs.SameByNames.{Same, textOf}
 use Rattle.text_laws.specs.EqualTexts as texts
 use Rattle.text_laws.specs.Handed.{hold-names, names-hold}
-use Rattle.text_laws.specs.LentSlice.{reads-back-in}
 use Rattle.model_laws.specs.Good.{passes→good}
 use Rattle.names_test.specs.Answered.{TextCall, handed, passesNamed, sliceWith, textAnswer, textLen}
 use Rattle.names_test.specs.declared.Text.{Text}
@@ -75,13 +72,6 @@ module _ {s n c v f i old : List ℕ} {r : Text} {new : List ℕ} (k : TextCall 
       let t = ==-in _ 0 (sym (k .answer) ∙ z) in
       ap₂ (λ (l : ℕ) (x : List ℕ). take l x) (k .len ∙ if-true _ _ _ t) (k .slice ∙ if-true _ _ _ t)
       ∙ take-append-seam (textOf (handed s n c v f i)) _
-
-  -- "A book written as text and read into an empty session is the same book by names", with a slice long enough for the rows
-  pub written-reads-back : (slice : List ℕ) → length (rowsBack (handed s n c v f i)) ≤ length slice
-      → Same (stateAfter slice (take (r .len) new)) (handed s n c v f i)
-  written-reads-back slice h =
-      subst (λ (w : Bytes). Same (stateAfter slice w) (handed s n c v f i)) (sym answered-text)
-      (reads-back-in (handed s n c v f i) answered-named slice h)
 
 -- "two books have equal texts exactly when they are the same by names"
 pub equal-texts : {s n c v f i old : List ℕ} {r : Text} {new : List ℕ} {s′ n′ c′ v′ f′ i′ old′ : List ℕ} {r′ : Text} {new′ : List ℕ}

@@ -178,6 +178,9 @@ pub <?-no : (m n : ℕ) → (m <? n) ≡ false → n ≤ m
 unfolding _<?_
 <?-no m n e = ltb-false m n e
 
+pub ≤-or-< : (m n : ℕ) → (m ≤ n) ⊎ (n < m)
+≤-or-< m n = elim (bool? (n <? m)) [ inl y ↦ inr (<?-out n m y) | inr z ↦ inl (<?-no n m z) ]
+
 pub ≤?-out : (m n : ℕ) → (m ≤? n) ≡ true → m ≤ n
 unfolding _≤?_
 ≤?-out m n e = leb→le m n (≡→T (leb m n) e)

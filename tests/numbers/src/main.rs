@@ -8,6 +8,8 @@ mod books;
 #[path = "../../../bench/src/carried.rs"]
 mod carried;
 mod decoded;
+#[path = "../../../bench/src/exports.rs"]
+mod exports;
 mod host;
 mod lent;
 #[allow(dead_code)]

@@ -1,4 +1,6 @@
 // Sets of numbers below 64, as the binary digits of a u64.
+#![tactic(auto)]
+
 ghost use Rattle.std.specs.Prelude.{◌≡◌, ◌<◌};
 ghost use Rattle.sets.specs.Tests as tests;
 ghost use Rattle.sets.specs.Sets.{bit};

@@ -79,7 +79,7 @@ add_few S c v r there h =
 pub del_few : (b : Book) → Good b → (c v : ℕ) → specified b.specs c ≡ true → count versions (has_version (change c (with_version v none) b.specs) c) ≤ 8
 unfolding is_some has_version
 del_few b g c v there =
-    le_trans (count_mono versions _ (has_version b.specs c) (λ w k t. elim (same? w v) [
+    le_trans (count_mono versions (has_version (change c (with_version v none) b.specs) c) (has_version b.specs c) (λ w k t. elim (same? w v) [
       | inl e ↦ clash (rw e at t) (ap is_some (spec_at_lem b.specs c v none there))
       | inr n ↦ sym (spec_version_lem b.specs c v none there c w (λ e. n)) ∙ t
     ]))

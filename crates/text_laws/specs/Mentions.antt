@@ -10,6 +10,7 @@ use Rattle.model.specs.Book.{is_module, is_system, member, provides, requires, s
 use Rattle.model.specs.Lists.{elem, every, non_empty}
 use Rattle.model.specs.Maps.{is_some, or_else}
 use Rattle.sets.specs.TestLaws.{==-out, and_l, clash, or_out}
+use Rattle.sets.specs.Tests.{if◌then◌else◌}
 use Rattle.text.specs.Bytes.{Text, among, short, valid_implementation, valid_name}
 use Rattle.text.specs.Handed.{Named}
 use Rattle.text.specs.Language.{Name, NamedMembers, Said}
@@ -35,7 +36,7 @@ use Rattle.model_laws.specs.MapLaws.{is_some_out}
 enter_append : (t : Table) (xs ys : List Name) → enter t (xs ++ ys) ≡ enter (enter t xs) ys
 unfolding enter
 enter_append t [] ys = refl
-enter_append t (x ∷ xs) ys = enter_append _ xs ys
+enter_append t (x ∷ xs) ys = enter_append (if among x t then t else (t ++ (x ∷ []))) xs ys
 
 pub entered_all : (k : Kind) (t : Tables) (ks : List Said)
     → table k (all_entered t ks) ≡ enter (table k t) (joined (map (λ c. table k (mentioned c)) ks))

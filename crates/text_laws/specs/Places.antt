@@ -127,7 +127,7 @@ pub enter_every : (test : Name → Bool) (t : Table) (ws : List Name) → every 
     → every test (enter t ws) ≡ true
 unfolding enter every
 enter_every test t [] p q = p
-enter_every test t (w ∷ ws) p q = enter_every test _ ws
+enter_every test t (w ∷ ws) p q = enter_every test (if among w t then t else (t ++ (w ∷ []))) ws
     (elim (bool? (among w t)) [
       | inl e ↦ ap (every test) (if-true _ _ _ e) ∙ p
       | inr e ↦ ap (every test) (if-false _ _ _ e)
@@ -158,7 +158,7 @@ apart_more (x ∷ xs) w p q =
 pub enter_apart : (t : Table) (ws : List Name) → apart t ≡ true → apart (enter t ws) ≡ true
 unfolding enter
 enter_apart t [] p = p
-enter_apart t (w ∷ ws) p = enter_apart _ ws
+enter_apart t (w ∷ ws) p = enter_apart (if among w t then t else (t ++ (w ∷ []))) ws
     (elim (bool? (among w t)) [
       | inl e ↦ ap apart (if-true _ _ _ e) ∙ p
       | inr e ↦ ap apart (if-false _ _ _ e) ∙ apart_more t w p e

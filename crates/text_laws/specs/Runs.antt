@@ -39,10 +39,10 @@ pub runs_text : {s s₁ : State} {ks : List Said} → Runs s ks s₁ → (n i : 
     → session_from n i s (joined (map line ks)) ≡ (accepted i (length ks), s₁)
 unfolding session_from joined accepted on_read lines afterwards
 runs_text done zero i h = refl
-runs_text {s} done (suc n) i h = ap (on_read _ i s) command_none
+runs_text {s} done (suc n) i h = ap (on_read (λ s' rest. session_from n (suc i) s' rest) i s) command_none
 runs_text (step w e r) zero i h = absurd (omega arith)
 runs_text (step {s} {s₁} {s₂} {k} {ks} w e r) (suc n) i h =
-    ap (on_read _ i s) (command_reads k (joined (map line ks)) w)
+    ap (on_read (λ s' rest. session_from n (suc i) s' rest) i s) (command_reads k (joined (map line ks)) w)
     ∙ ap (λ (x : Result). (
       lines i x ++ (session_from n (suc i) (afterwards s x) (10 ∷ joined (map line ks))).0,
       (session_from n (suc i) (afterwards s x) (10 ∷ joined (map line ks))).1,

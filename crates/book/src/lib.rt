@@ -1,5 +1,7 @@
 // The Book value: a version book in two arrays, read by component and version. What it means is `plain_of` (specs/Plain.antt). How versions
 // are stored is seen here and in the two crates of writers, book_put and book_take, alone.
+#![tactic(auto)]
+
 ghost use Rattle.std.specs.Prelude.{◌≡◌, true, ◌<◌, length};
 ghost use Rattle.std.proofs.Math.Option.{some};
 ghost use Rattle.sets.specs.Sets.{bit};

@@ -137,7 +137,7 @@ module _ {A B : Type 0} (n : ℕ) (good full single : A → Bool) (what : A → 
     ]
       where
         or-true : (a : Bool) → (a or true) ≡ true
-        or-true a = unfold ◌or◌ in elim a [ true ↦ refl | false ↦ refl ]
+        or-true a = unfold ◌or◌ in elim a as (λ k. (k or true) ≡ true) [ true ↦ refl | false ↦ refl ]
 
   -- ---- a list
 

@@ -2,7 +2,7 @@
 // name with `_in` does (command_add, command_delete). What a call gives and leaves is `Called` (command_outcome).
 ghost use Rattle.model.specs.Commands.{DEL-SPEC, DEL-MOD, DEL-SYS, DEL-MODVAR, DEL-SYSVAR};
 ghost use Rattle.command_outcome.specs.Outcome.{Called};
-ghost use Rattle.command_outcome.specs.Calls.{command_of, add_spec_lines, add_mod_lines, add_sys_lines, add_modvar_lines, add_sysvar_lines};
+ghost use Rattle.command_outcome.specs.Calls.{command_of, add_spec, add_mod, add_sys, add_modvar, add_sysvar};
 
 use book::Book;
 
@@ -22,7 +22,7 @@ pub fn add_spec<'a>(
     required: &'a [u64],
     standard: usize,
 ) -> Outcome
-    ensures { Called b.sets b.numbers (command_of (add_spec_lines c provided versions.now required.now standard)) result.answer result.book.sets result.book.numbers }
+    ensures { Called b.sets b.numbers (command_of (add_spec c provided versions.now required.now standard)) result.answer result.book.sets result.book.numbers }
 {
     if !book_test::passes(&b.sets, &b.numbers) {
         return Outcome {
@@ -51,7 +51,7 @@ pub fn add_mod<'a>(
     versions: &'a [usize],
     implementations: &'a [usize],
 ) -> Outcome
-    ensures { Called b.sets b.numbers (command_of (add_mod_lines c versions.now implementations.now)) result.answer result.book.sets result.book.numbers }
+    ensures { Called b.sets b.numbers (command_of (add_mod c versions.now implementations.now)) result.answer result.book.sets result.book.numbers }
 {
     if !book_test::passes(&b.sets, &b.numbers) {
         return Outcome {
@@ -75,7 +75,7 @@ pub fn add_mod<'a>(
 
 // ADD-MODVAR, on any Book: the facilities required as a set.
 pub fn add_modvar(b: Book, c: usize, v: usize, required: u64, implementation: usize) -> Outcome
-    ensures { Called b.sets b.numbers (command_of (add_modvar_lines c v required implementation)) result.answer result.book.sets result.book.numbers }
+    ensures { Called b.sets b.numbers (command_of (add_modvar c v required implementation)) result.answer result.book.sets result.book.numbers }
 {
     if !book_test::passes(&b.sets, &b.numbers) {
         return Outcome {
@@ -114,7 +114,7 @@ pub fn add_sys<'a>(
     members: &'a [usize],
     chosen: &'a [usize],
 ) -> Outcome
-    ensures { Called b.sets b.numbers (command_of (add_sys_lines c usable.now versions.now lengths.now members.now chosen.now)) result.answer result.book.sets result.book.numbers }
+    ensures { Called b.sets b.numbers (command_of (add_sys c usable.now versions.now lengths.now members.now chosen.now)) result.answer result.book.sets result.book.numbers }
 {
     if !book_test::passes(&b.sets, &b.numbers) {
         return Outcome {
@@ -145,7 +145,7 @@ pub fn add_sysvar<'a>(
     members: &'a [usize],
     chosen: &'a [usize],
 ) -> Outcome
-    ensures { Called b.sets b.numbers (command_of (add_sysvar_lines c v members.now chosen.now)) result.answer result.book.sets result.book.numbers }
+    ensures { Called b.sets b.numbers (command_of (add_sysvar c v members.now chosen.now)) result.answer result.book.sets result.book.numbers }
 {
     if !book_test::passes(&b.sets, &b.numbers) {
         return Outcome {

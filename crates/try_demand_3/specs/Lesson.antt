@@ -1,7 +1,7 @@
 -- The calls of the run: the teaching book by numbers (model's Teaching), then each of the ten calls tried on it.
 use Rattle.std.specs.Prelude.{List, [], ◌∷◌, ◌++◌, ℕ}
 use Rattle.command_lists.specs.Said.{left_out}
-use Rattle.command_outcome.specs.Calls.{Call, add_mod_lines, add_modvar_lines, add_spec_lines, add_sys_lines, add_sysvar_lines, del_mod_lines, del_modvar_lines, del_spec_lines, del_sys_lines, del_sysvar_lines}
+use Rattle.command_outcome.specs.Calls.{Call, add_mod, add_modvar, add_spec, add_sys, add_sysvar, del_mod, del_modvar, del_spec, del_sys, del_sysvar}
 use Rattle.model.specs.Teaching.{loop, one, probe, tank, v2, va, valve, vb, vp}
 
 -- sets of facilities, as numbers
@@ -30,26 +30,26 @@ left_out_list = left_out ∷ left_out ∷ left_out ∷ []
 -- the five calls of document 01's example
 abbrev pub building : List Call
 building =
-    add_spec_lines probe temp (one ∷ []) (none ∷ []) one ∷
-    add_spec_lines valve cool (v2 ∷ []) (temp ∷ []) v2 ∷
-    add_spec_lines loop hold (vp ∷ []) (temp_and_cool ∷ []) vp ∷
-    add_spec_lines tank hold (va ∷ []) (none ∷ []) va ∷
-    add_sys_lines tank members (va ∷ []) (3 ∷ []) members left_out_list ∷ []
+    add_spec probe temp (one ∷ []) (none ∷ []) one ∷
+    add_spec valve cool (v2 ∷ []) (temp ∷ []) v2 ∷
+    add_spec loop hold (vp ∷ []) (temp_and_cool ∷ []) vp ∷
+    add_spec tank hold (va ∷ []) (none ∷ []) va ∷
+    add_sys tank members (va ∷ []) (3 ∷ []) members left_out_list ∷ []
 
 -- K4, K5, K6, and then each of the others, accepted
 abbrev pub trying : List Call
 trying =
-    del_spec_lines probe ∷
-    del_modvar_lines valve v2 ∷
-    add_sysvar_lines tank vb (loop ∷ []) (left_out ∷ []) ∷
-    add_mod_lines probe (one ∷ []) (7 ∷ []) ∷
-    add_modvar_lines probe v2 none 8 ∷
-    del_modvar_lines probe v2 ∷
-    del_mod_lines probe ∷
-    add_sysvar_lines tank vb members left_out_list ∷
-    del_sysvar_lines tank vb ∷
-    del_sys_lines tank ∷
-    del_spec_lines tank ∷ []
+    del_spec probe ∷
+    del_modvar valve v2 ∷
+    add_sysvar tank vb (loop ∷ []) (left_out ∷ []) ∷
+    add_mod probe (one ∷ []) (7 ∷ []) ∷
+    add_modvar probe v2 none 8 ∷
+    del_modvar probe v2 ∷
+    del_mod probe ∷
+    add_sysvar tank vb members left_out_list ∷
+    del_sysvar tank vb ∷
+    del_sys tank ∷
+    del_spec tank ∷ []
 
 abbrev pub lesson : List Call
 lesson = building ++ trying

@@ -1,6 +1,6 @@
 // A run of real calls: the teaching book, built from a fresh Book and tried with each of the ten calls. Prints the answers.
 ghost use Rattle.std.specs.Prelude.{[], ◌∷◌, ◌++◌};
-ghost use Rattle.command_outcome.specs.Calls.{Call, add_mod_lines, add_spec_lines, add_sys_lines, add_sysvar_lines, command_of};
+ghost use Rattle.command_outcome.specs.Calls.{Call, add_mod, add_spec, add_sys, add_sysvar, command_of};
 ghost use Rattle.command_outcome.specs.Outcome.{Called};
 ghost use Rattle.demand_3.specs.Demand.{Arrays, Demand3, Step};
 ghost use Rattle.model_laws.specs.Notions.{Run};
@@ -11,7 +11,7 @@ use commands::Outcome;
 
 // ADD-SPEC of a component with one version.
 fn spec(b: Book, c: usize, provided: u64, v: usize, required: u64) -> Outcome
-    ensures { Called b.sets b.numbers (command_of (add_spec_lines c provided (v ∷ []) (required ∷ []) v))
+    ensures { Called b.sets b.numbers (command_of (add_spec c provided (v ∷ []) (required ∷ []) v))
         result.answer result.book.sets result.book.numbers }
 {
     let versions = [v];
@@ -21,7 +21,7 @@ fn spec(b: Book, c: usize, provided: u64, v: usize, required: u64) -> Outcome
 
 // ADD-MOD of a component with one version.
 fn define(b: Book, c: usize, v: usize, implementation: usize) -> Outcome
-    ensures { Called b.sets b.numbers (command_of (add_mod_lines c (v ∷ []) (implementation ∷ [])))
+    ensures { Called b.sets b.numbers (command_of (add_mod c (v ∷ []) (implementation ∷ [])))
         result.answer result.book.sets result.book.numbers }
 {
     let versions = [v];
@@ -31,7 +31,7 @@ fn define(b: Book, c: usize, v: usize, implementation: usize) -> Outcome
 
 // ADD-SYSVAR of a composition with one member.
 fn one_member(b: Book, c: usize, v: usize, member: usize, chosen: usize) -> Outcome
-    ensures { Called b.sets b.numbers (command_of (add_sysvar_lines c v (member ∷ []) (chosen ∷ [])))
+    ensures { Called b.sets b.numbers (command_of (add_sysvar c v (member ∷ []) (chosen ∷ [])))
         result.answer result.book.sets result.book.numbers }
 {
     let members = [member];
@@ -48,7 +48,7 @@ fn three_members(
     third: usize,
     chosen: usize,
 ) -> Outcome
-    ensures { Called b.sets b.numbers (command_of (add_sysvar_lines c v (first ∷ second ∷ third ∷ []) (chosen ∷ chosen ∷ chosen ∷ [])))
+    ensures { Called b.sets b.numbers (command_of (add_sysvar c v (first ∷ second ∷ third ∷ []) (chosen ∷ chosen ∷ chosen ∷ [])))
         result.answer result.book.sets result.book.numbers }
 {
     let members = [first, second, third];
@@ -67,7 +67,7 @@ fn system(
     chosen: usize,
 ) -> Outcome
     ensures { Called b.sets b.numbers
-        (command_of (add_sys_lines c (first ∷ second ∷ third ∷ []) (v ∷ []) (3 ∷ []) (first ∷ second ∷ third ∷ []) (chosen ∷ chosen ∷ chosen ∷ [])))
+        (command_of (add_sys c (first ∷ second ∷ third ∷ []) (v ∷ []) (3 ∷ []) (first ∷ second ∷ third ∷ []) (chosen ∷ chosen ∷ chosen ∷ [])))
         result.answer result.book.sets result.book.numbers }
 {
     let members = [first, second, third];

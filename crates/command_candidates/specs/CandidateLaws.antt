@@ -154,7 +154,7 @@ module _ (s n : List ℕ) (c v : ℕ) (g : Composition) (good : passes s n ≡ t
     room = record {
       component< = <?_out _ _ (and_l _ _ yes_each.0);
       is_proper = passes-proper s n good;
-      is_specified = good_book.b2.sys-spec c is_system_lem;
+      is_specified = good_book.b2.sys_spec c is_system_lem;
       is_room = <?_out _ _ yes_each.1.1.1.1.1.0;
     };
     version< = version_small;

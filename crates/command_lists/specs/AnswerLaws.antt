@@ -285,22 +285,22 @@ module _ (b : Book) (c : ℕ) (us : List ℕ) (ks : List (ℕ × Members)) where
     sys_after_lem =
         ap₂ (λ (u : Set) (m : Map (Map ℕ)). record { specs = b.specs; modules = b.modules; systems = put c (some (record { uses = u; comp = m })) b.systems })
         usable_set
-        (fun_ext (λ v. stored-map (beside ks v) ∙ ap (option_map (stores b.specs)) (are_given versions (every member_below) non_empty members_once beside ks composed_g composed_is ok v)))
+        (fun_ext (λ v. stored_map (beside ks v) ∙ ap (option_map (stores b.specs)) (are_given versions (every member_below) non_empty members_once beside ks composed_g composed_is ok v)))
       where
-        stored-map : (o : Option Members) → option_map (stored b.specs) o ≡ option_map (stores b.specs) (option_map beside o)
-        stored-map none = unfold option_map in refl
-        stored-map (some ms) = unfold option_map stored stores in refl
+        stored_map : (o : Option Members) → option_map (stored b.specs) o ≡ option_map (stores b.specs) (option_map beside o)
+        stored_map none = unfold option_map in refl
+        stored_map (some ms) = unfold option_map stored stores in refl
 
     sys_once : (once (firsts ks) & once us & every (λ ms. once (firsts ms)) (seconds ks)) ≡ (~ composed_g.twice & ~ usable_g.twice)
     unfolding members_once
     sys_once =
-        and-turn _ _ _
+        and_turn _ _ _
         ∙ ap₂ (λ (x y : Bool). x & y) (are_once versions (every member_below) non_empty members_once beside ks composed_g composed_is ok)
         (ap once (sym (firsts_alone us)) ∙ sym (once-always (map alone us)) ∙ are_once components always always always itself (map alone us) usable_g usable_is uk)
       where
-        and-turn : (x y z : Bool) → (x & y & z) ≡ ((x & z) & y)
-        and-turn true y z = unfold ◌&◌ in and_swap y z
-        and-turn false y z = unfold ◌&◌ in refl
+        and_turn : (x y z : Bool) → (x & y & z) ≡ ((x & z) & y)
+        and_turn true y z = unfold ◌&◌ in and_swap y z
+        and_turn false y z = unfold ◌&◌ in refl
 
     us_below : each_below components us ≡ true
     us_below = and_l _ _ (sym usable_limits ∙ uk)

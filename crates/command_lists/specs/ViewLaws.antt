@@ -79,10 +79,10 @@ module _ {A B : Type 0} (n : ℕ) (good full single : A → Bool) (what : A → 
   module _ (w : ℕ) (at' : ℕ → B) (v< : v < n) (ok : good a ≡ true) (new : bit s v ≡ false) (bits : bit w ≡ with (bit s) v) (here : at' v ≡ what a)
       (there : (i : ℕ) → i ≢ v → at' i ≡ at i) where
     given_new : (i : ℕ) → only_if (bit w i) (at' i) ≡ else_try (only_if (bit s i) (at i)) (only_if (i == v) (what a))
-    given_new i = elim (same? i v) [ inl q ↦ rw q is-v | inr q ↦ other q ]
+    given_new i = elim (same? i v) [ inl q ↦ rw q is_v_lem | inr q ↦ other q ]
       where
-        is-v : only_if (bit w v) (at' v) ≡ else_try (only_if (bit s v) (at v)) (only_if (v == v) (what a))
-        is-v =
+        is_v_lem : only_if (bit w v) (at' v) ≡ else_try (only_if (bit s v) (at v)) (only_if (v == v) (what a))
+        is_v_lem =
             only_yes _ _ (ap (λ (f : Set). f v) bits ∙ with_here _ v) ∙ ap some here
             ∙ sym (else_second _ _ (only_no _ _ new) ∙ only_yes _ _ (==-same v))
 

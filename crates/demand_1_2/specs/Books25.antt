@@ -6,7 +6,7 @@ use Rattle.book.specs.Plain.{byte, component_set, composition_at, facility_set, 
 use Rattle.book.specs.Plain.{plain_of, proper, proper_at, proper_if, sets_low, slot, slot_apart, slot_low, slots_apart, spec_at, specified_at, specs_of}
 use Rattle.book.specs.Plain.{system_at, systems_of}
 use Rattle.book_rules.specs.Test.{passes}
-use Rattle.demand_1_2.specs.Verdict.{Arrays, Change, Gets25, Part, as_number, book_nos, is_value, its-counts, its-numbers}
+use Rattle.demand_1_2.specs.Verdict.{Arrays, Change, Gets25, Part, as_number, book_nos, is_value, its_counts, its_numbers}
 use Rattle.demand_1_2.specs.Verdict.{kind, member_version, members, nos, provides, requires, rule, standard, usable, version}
 use Rattle.demand_1_2.specs.Verdict.{write, write_all}
 use Rattle.demand_1_2.specs.VerdictLaws.{gets}
@@ -49,21 +49,21 @@ Row = List Change × List Part
 abbrev pub numbers : List Row
 numbers =
     -- A number beyond its limit: a kind that is none,
-    (kind probe 4 ∷ [], its-numbers ∷ []) ∷
+    (kind probe 4 ∷ [], its_numbers ∷ []) ∷
     -- a version,
-    (version probe 1 65 ∷ [], its-numbers ∷ []) ∷
+    (version probe 1 65 ∷ [], its_numbers ∷ []) ∷
     -- a usable component,
-    (usable tank (loop ∷ probe ∷ valve ∷ 32 ∷ []) ∷ [], its-numbers ∷ []) ∷
+    (usable tank (loop ∷ probe ∷ valve ∷ 32 ∷ []) ∷ [], its_numbers ∷ []) ∷
     -- a member,
-    (members tank 0 (loop ∷ probe ∷ valve ∷ 32 ∷ []) ∷ [], its-numbers ∷ []) ∷
+    (members tank 0 (loop ∷ probe ∷ valve ∷ 32 ∷ []) ∷ [], its_numbers ∷ []) ∷
     -- a standard version: it is none of the component's versions,
     (standard probe 64 ∷ [], rule 1 ∷ []) ∷
     -- a member's version: the member does not have it.
     (member_version tank 0 probe 64 ∷ [], rule 5 ∷ []) ∷
     -- A version twice.
-    (version probe 1 one ∷ [], its-numbers ∷ []) ∷
+    (version probe 1 one ∷ [], its_numbers ∷ []) ∷
     -- No version; the standard version is then none of the versions.
-    (kind shell 1 ∷ one_version shell 64, its-counts ∷ rule 1 ∷ []) ∷ []
+    (kind shell 1 ∷ one_version shell 64, its_counts ∷ rule 1 ∷ []) ∷ []
 
 abbrev pub rules_1_to_4 : List Row
 rules_1_to_4 =

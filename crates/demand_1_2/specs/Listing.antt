@@ -24,14 +24,14 @@ pub data Entry (i : ℕ) (s : State) (k : Said) : Text → State → Type 0 wher
   -- an accepted query: "After a 0 come the query's rows: command number, then one name, or component and version"; nothing is changed
   answered : (rs : List Text) → carry s k ≡ rows rs → Entry i s k (row i (decimal 0) ++ joined (map (row i) rs)) s
   -- ""out" is followed by the book's text"; nothing is changed
-  put-out : k ≡ OUT → Entry i s k (row i (decimal 0) ++ text_of s) s
+  put_out : k ≡ OUT → Entry i s k (row i (decimal 0) ++ text_of s) s
 
 -- The text t, read in the state s from command number i on: the listing, and the state in the end.
 pub data Listing : ℕ → State → Text → Text → State → Type 0 where
   -- ""quit" or the end of input ends it without a row."
   ended : {i : ℕ} {s : State} {t : Text} → command t ≡ over → Listing i s t [] s
   -- "Is the command of the language? no: 23, and the session ends.": nothing follows this row; book and tables are as they were
-  broken-off : {i : ℕ} {s : State} {t : Text} → command t ≡ wrong → Listing i s t (row i (decimal 23)) s
+  broken_off : {i : ℕ} {s : State} {t : Text} → command t ≡ wrong → Listing i s t (row i (decimal 23)) s
   -- the lines of command i, then the listing of the rest of the text from the next number on, in the state after it
   goes_on : {i : ℕ} {s s' s'' : State} {t rest lines more : Text} {k : Said} → command t ≡ said k rest → Entry i s k lines s'
       → Listing (suc i) s' rest more s'' → Listing i s t (lines ++ more) s''

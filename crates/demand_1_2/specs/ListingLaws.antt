@@ -17,7 +17,7 @@ use Rattle.text_laws.specs.Changes.{Changes, adds, carry_changes, stays, tells}
 use Rattle.text_laws.specs.Left.{left_length}
 use Rattle.text_laws.specs.Takes.{LeftR, command_left}
 use Rattle.text_laws.specs.ValidNames.{ValidRead, command_valid}
-use Rattle.demand_1_2.specs.Listing.{Demand1, Entry, Listing, acceptance, answered, broken-off, ended, goes_on, put-out, refusal}
+use Rattle.demand_1_2.specs.Listing.{Demand1, Entry, Listing, acceptance, answered, broken_off, ended, goes_on, put_out, refusal}
 use Rattle.demand_1_2.specs.Refused.{May, carry_may}
 use Rattle.demand_1_2.specs.Sessions.{listed, too_long_lem}
 use Rattle.demand_1_2.specs.WholeLaws.{WholeRead, command_whole, whole}
@@ -34,7 +34,7 @@ entry i s k f w = by (carry s k) refl (carry_may s k f w)
     by (changed s') e m = unfold lines afterwards in acceptance s' e
     by (rows rs) e m = unfold lines afterwards in answered rs e
     by (text w) e m = unfold lines afterwards in
-        subst (λ (z : Text). Entry i s k (row i (decimal 0) ++ z) s) (sym m.1) (put-out m.0)
+        subst (λ (z : Text). Entry i s k (row i (decimal 0) ++ z) s) (sym m.1) (put_out m.0)
 
 -- ---- the listing
 
@@ -58,7 +58,7 @@ on_read_lem : (go : State → Text → Text × State) (i : ℕ) (s : State) (t :
     → Listing i s t (on_read go i s x).0 (on_read go i s x).1
 unfolding on_read
 on_read_lem go i s t over e l v w f h = ended e
-on_read_lem go i s t wrong e l v w f h = broken-off e
+on_read_lem go i s t wrong e l v w f h = broken_off e
 on_read_lem go i s t (said k rest) e l v w f h =
     goes_on e (entry i s k f w) (h (afterwards s (carry s k)) rest (let j = left_length l in omega arith)
     (fits_kept s _ (carry_changes s k v) f))

@@ -2,7 +2,7 @@
 -- of whatever stands in a Book's arrays. Each is K but for one entry.
 use Rattle.std.specs.Prelude.{false, List, [], ◌∷◌, map, ◌≡◌, refl}
 use Rattle.std.proofs.Math.Option.{none, some}
-use Rattle.demand_1_2.specs.Verdict.{Part, book_nos, its-counts, rule}
+use Rattle.demand_1_2.specs.Verdict.{Part, book_nos, its_counts, rule}
 use Rattle.model.specs.Book.{Book, Modules, Spec, Specs, System, Systems}
 use Rattle.model.specs.Maps.{change, only_if, put}
 use Rattle.model.specs.Teaching.{K, everything, one, probe, shell, tank, temp, v2, va, vb}
@@ -27,7 +27,7 @@ one_more y = record { uses = y.uses; comp = put vb (y.comp va) y.comp }
 abbrev pub others : List (Book × List Part)
 others =
     -- Nine versions of probe. A component of a Book has eight slots.
-    (specs_now (put probe (some nine_versions) K.specs), its-counts ∷ []) ∷
+    (specs_now (put probe (some nine_versions) K.specs), its_counts ∷ []) ∷
     -- B2: shell is defined and not specified. What a Book has a definition of has a kind, and is specified.
     (modules_now (put shell (some (λ v. none)) K.modules), rule 2 ∷ []) ∷
     -- B2: tank is both module and system. A component of a Book has one kind.

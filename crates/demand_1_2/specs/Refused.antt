@@ -31,20 +31,20 @@ use Rattle.demand_1_2.specs.WholeLaws.{some_mapped, whole}
 
 -- each question is known to get a yes, or its number is one of the refusals
 data Among : List Question → Type 0 where
-  no-question : Among []
-  a-yes : {q : Question} {qs : List Question} → q.1 ≡ true → Among qs → Among (q ∷ qs)
-  a-refusal : {q : Question} {qs : List Question} → elem q.0 refusals ≡ true → Among qs → Among (q ∷ qs)
+  no_question : Among []
+  a_yes : {q : Question} {qs : List Question} → q.1 ≡ true → Among qs → Among (q ∷ qs)
+  a_refusal : {q : Question} {qs : List Question} → elem q.0 refusals ≡ true → Among qs → Among (q ∷ qs)
 
 all-refusals : (qs : List Question) → every (λ q. elem q.0 refusals) qs ≡ true → Among qs
 unfolding every
-all-refusals [] e = no-question
-all-refusals (q ∷ qs) e = a-refusal (and_l _ _ e) (all-refusals qs (and_r _ _ e))
+all-refusals [] e = no_question
+all-refusals (q ∷ qs) e = a_refusal (and_l _ _ e) (all-refusals qs (and_r _ _ e))
 
 first_among : {qs : List Question} → Among qs → (first_no qs ≡ 0) ⊎ (elem (first_no qs) refusals ≡ true)
 unfolding first_no
-first_among no-question = inl refl
-first_among (a-yes y h) = subst (λ (n : ℕ). (n ≡ 0) ⊎ (elem n refusals ≡ true)) (sym (if-true _ _ _ y)) (first_among h)
-first_among (a-refusal {q} e h) = by_test (λ n. (n ≡ 0) ⊎ (elem n refusals ≡ true)) q.1 _ _ (λ y. first_among h) (inr e)
+first_among no_question = inl refl
+first_among (a_yes y h) = subst (λ (n : ℕ). (n ≡ 0) ⊎ (elem n refusals ≡ true)) (sym (if-true _ _ _ y)) (first_among h)
+first_among (a_refusal {q} e h) = by_test (λ n. (n ≡ 0) ⊎ (elem n refusals ≡ true)) q.1 _ _ (λ y. first_among h) (inr e)
 
 -- ---- the adding commands, by the numbers of the tables with their names
 
@@ -53,30 +53,30 @@ module _ (b : Book) (t : Tables) where
       → fits (entered t (spec_names c ps vs)) ≡ true → Among (questions b (spec_numbered (entered t (spec_names c ps vs)) c ps vs d))
   unfolding questions spec_numbered whole elem refusals ◌==◌ ◌or◌
   spec_among c ps vs d w f =
-      a-yes (spec_limits_lem t c ps vs d f (and_r (non_empty vs) _ w)) (a-yes (some_mapped _ vs (and_l _ _ w))
-      (a-refusal refl (a-refusal refl (a-refusal refl (a-refusal refl (a-yes (standard-elem _ _ d vs (and_r (non_empty vs) _ w)) no-question))))))
+      a_yes (spec_limits_lem t c ps vs d f (and_r (non_empty vs) _ w)) (a_yes (some_mapped _ vs (and_l _ _ w))
+      (a_refusal refl (a_refusal refl (a_refusal refl (a_refusal refl (a_yes (standard-elem _ _ d vs (and_r (non_empty vs) _ w)) no_question))))))
 
   mod_among : (c : Name) (is : List (Name × Name)) → whole (MOD c is) ≡ true → fits (entered t (mod_names c is)) ≡ true
       → Among (questions b (mod_numbered (entered t (mod_names c is)) c is))
   unfolding questions mod_numbered whole every elem refusals ◌&◌ ◌==◌ ◌or◌
-  mod_among c is w f = a-yes (mod_limits t c is f) (a-yes (some_mapped _ is w) (all-refusals _ refl))
+  mod_among c is w f = a_yes (mod_limits t c is f) (a_yes (some_mapped _ is w) (all-refusals _ refl))
 
   sys_among : (c : Name) (us : List Name) (ks : List (Name × NamedMembers)) → whole (SYS c us ks) ≡ true
       → fits (entered t (sys_names c us ks)) ≡ true → Among (questions b (sys_numbered (entered t (sys_names c us ks)) c us ks))
   unfolding questions sys_numbered numbered_members whole every elem refusals ◌&◌ ◌==◌ ◌or◌
   sys_among c us ks w f =
-      a-yes (sys_limits t c us ks f) (a-yes (and_in _ _ (some_mapped _ ks (and_l _ _ w)) (seconds-some _ _ ks (and_r (non_empty ks) _ w)))
+      a_yes (sys_limits t c us ks f) (a_yes (and_in _ _ (some_mapped _ ks (and_l _ _ w)) (seconds-some _ _ ks (and_r (non_empty ks) _ w)))
       (all-refusals _ refl))
 
   modvar_among : (c v : Name) (rs : List Name) (i : Name) → fits (entered t (modvar_names c v rs i)) ≡ true
       → Among (questions b (modvar_numbered (entered t (modvar_names c v rs i)) c v rs i))
   unfolding questions modvar_numbered every elem refusals ◌&◌ ◌==◌ ◌or◌
-  modvar_among c v rs i f = a-yes (modvar_limits t c v rs i f) (all-refusals _ refl)
+  modvar_among c v rs i f = a_yes (modvar_limits t c v rs i f) (all-refusals _ refl)
 
   sysvar_among : (c v : Name) (ms : NamedMembers) → whole (SYSVAR c v ms) ≡ true → fits (entered t (sysvar_names c v ms)) ≡ true
       → Among (questions b (sysvar_numbered (entered t (sysvar_names c v ms)) c v ms))
   unfolding questions sysvar_numbered numbered_members whole every elem refusals ◌&◌ ◌==◌ ◌or◌
-  sysvar_among c v ms w f = a-yes (sysvar_limits t c v ms f) (a-yes (some_mapped _ ms w) (all-refusals _ refl))
+  sysvar_among c v ms w f = a_yes (sysvar_limits t c v ms f) (a_yes (some_mapped _ ms w) (all-refusals _ refl))
 
 -- ---- what may come of the command k in the state s
 
@@ -153,33 +153,33 @@ carry_may s (SYS c us ks) f w = add_may s _ _ _ (sys_among s.book s.tables c us 
 carry_may s (MODVAR c v rs i) f w = add_may s _ _ _ (modvar_among s.book s.tables c v rs i)
 carry_may s (SYSVAR c v ms) f w = add_may s _ _ _ (sysvar_among s.book s.tables c v ms w)
 carry_may s (DELSPEC c) f w = one_may s _ 4 c _ refl
-    (λ d e. told_may s _ _ _ (DEL-SPEC d) (a-yes (component_below s.tables f c d e) (all-refusals _ refl)))
+    (λ d e. told_may s _ _ _ (DEL-SPEC d) (a_yes (component_below s.tables f c d e) (all-refusals _ refl)))
 carry_may s (DELMOD c) f w = one_may s _ 6 c _ refl
-    (λ d e. told_may s _ _ _ (DEL-MOD d) (a-yes (component_below s.tables f c d e) (all-refusals _ refl)))
+    (λ d e. told_may s _ _ _ (DEL-MOD d) (a_yes (component_below s.tables f c d e) (all-refusals _ refl)))
 carry_may s (DELSYS c) f w = one_may s _ 7 c _ refl
-    (λ d e. told_may s _ _ _ (DEL-SYS d) (a-yes (component_below s.tables f c d e) (all-refusals _ refl)))
+    (λ d e. told_may s _ _ _ (DEL-SYS d) (a_yes (component_below s.tables f c d e) (all-refusals _ refl)))
 carry_may s (DELMODVAR c v) f w = pair_may s _ 6 _ c v _ refl
     (λ d x e q. told_may s _ _ _ (DEL-MODVAR d x)
-    (a-yes (pair_below s.tables f c v d x e q) (all-refusals _ refl)))
+    (a_yes (pair_below s.tables f c v d x e q) (all-refusals _ refl)))
 carry_may s (DELSYSVAR c v) f w = pair_may s _ 7 _ c v _ refl
     (λ d x e q. told_may s _ _ _ (DEL-SYSVAR d x)
-    (a-yes (pair_below s.tables f c v d x e q) (all-refusals _ refl)))
+    (a_yes (pair_below s.tables f c v d x e q) (all-refusals _ refl)))
 carry_may s (SUPPLIES c) f w = one_may s _ 4 c _ refl
-    (λ d e. asked_may s _ (queries.SUPPLIES d) (a-yes (component_below s.tables f c d e) (all-refusals _ refl)))
+    (λ d e. asked_may s _ (queries.SUPPLIES d) (a_yes (component_below s.tables f c d e) (all-refusals _ refl)))
 carry_may s (STANDARD c) f w = one_may s _ 4 c _ refl
-    (λ d e. asked_may s _ (queries.STANDARD d) (a-yes (component_below s.tables f c d e) (all-refusals _ refl)))
+    (λ d e. asked_may s _ (queries.STANDARD d) (a_yes (component_below s.tables f c d e) (all-refusals _ refl)))
 carry_may s (WHEREUSED c) f w = one_may s _ 4 c _ refl
-    (λ d e. asked_may s _ (queries.WHEREUSED d) (a-yes (component_below s.tables f c d e) (all-refusals _ refl)))
+    (λ d e. asked_may s _ (queries.WHEREUSED d) (a_yes (component_below s.tables f c d e) (all-refusals _ refl)))
 carry_may s (NEEDS c v) f w = pair_may s _ 4 _ c v _ refl
     (λ d x e q. asked_may s _ (queries.NEEDS d x)
-    (a-yes (pair_below s.tables f c v d x e q) (all-refusals _ refl)))
+    (a_yes (pair_below s.tables f c v d x e q) (all-refusals _ refl)))
 carry_may s (PARTS c v) f w = pair_may s _ 4 _ c v _ refl
     (λ d x e q. asked_may s _ (queries.PARTS d x)
-    (a-yes (pair_below s.tables f c v d x e q) (all-refusals _ refl)))
+    (a_yes (pair_below s.tables f c v d x e q) (all-refusals _ refl)))
 carry_may s (CHOICE fs) f w = by_test (May s (CHOICE fs)) _ _ _
-    (λ e. asked_may s _ (queries.CHOICE (numbers s.tables.facs fs)) (a-yes (facilities_below s.tables f fs e) no-question)) tt
-carry_may s UNDEFINED f w = asked_may s _ queries.UNDEFINED no-question
-carry_may s UNUSED f w = asked_may s _ queries.UNUSED no-question
+    (λ e. asked_may s _ (queries.CHOICE (numbers s.tables.facs fs)) (a_yes (facilities_below s.tables f fs e) no_question)) tt
+carry_may s UNDEFINED f w = asked_may s _ queries.UNDEFINED no_question
+carry_may s UNUSED f w = asked_may s _ queries.UNUSED no_question
 carry_may s OUT f w = (refl, refl)
 
 -- ---- the plain book's answer

@@ -54,16 +54,16 @@ is_value b = length b.0 == 576 & every (λ x. x <? 2 ^ 64) b.0 & length b.1 == 8
 
 pub data Part : Type 0 where
   -- the numbers of the arrays are below their limits, and no version stands in two slots (`proper`)
-  its-numbers : Part
+  its_numbers : Part
   -- each specified component has 1 to 8 versions (`one_to_eight`)
-  its-counts : Part
+  its_counts : Part
   -- B1 to B9
   rule : ℕ → Part
 
 -- those that say no of a plain book,
 unfoldable pub book_nos : Book → List Part
 book_nos b =
-    keep (~ one_to_eight b.specs) its-counts
+    keep (~ one_to_eight b.specs) its_counts
     (keep (~ B1 b.specs) (rule 1)
     (keep (~ B2 b.specs b.modules b.systems) (rule 2)
     (keep (~ B3 b.specs b.systems) (rule 3)
@@ -76,7 +76,7 @@ book_nos b =
 
 -- and those that say no of a Book
 unfoldable pub nos : Arrays → List Part
-nos b = keep (~ proper b.0 b.1) its-numbers (book_nos (plain_of b.0 b.1))
+nos b = keep (~ proper b.0 b.1) its_numbers (book_nos (plain_of b.0 b.1))
 
 -- ---- what comes of a Book
 

@@ -27,9 +27,9 @@ pub record PartsGiven (s n : List ℕ) (c v : ℕ) (old : List ℕ) (a rows dept
   -- book has versions, and no chain in it is longer than the number of systems plus one."
   pub right : PartsRight (plain_of s n) c v
   -- "The call for it gives 22 exactly when the slice has fewer rows than this list;
-  pub gives-22 : (a ≡ 22) ↔ (length old < length (parts (plain_of s n) c v))
+  pub gives_22 : (a ≡ 22) ↔ (length old < length (parts (plain_of s n) c v))
   -- so a slice with a row for each version in the book is never too short."
-  pub never-short : how_many_pairs (plain_of s n) ≤ length old → a ≡ 0
+  pub never_short : how_many_pairs (plain_of s n) ≤ length old → a ≡ 0
   -- It gives no other answer, and with 22 the slice is as it was.
   pub 0_or_22 : (a ≡ 0) ⊎ (a ≡ 22)
   pub kept : a ≡ 22 → (out ≡ old) × (rows ≡ 0) × (depth ≡ 0)
@@ -38,11 +38,11 @@ pub record PartsGiven (s n : List ℕ) (c v : ℕ) (old : List ℕ) (a rows dept
 -- answered by the numbers ns, and the last of them handed back the Book s n.
 pub record Demand3 (qs : List Call) (ns : List ℕ) (s n : List ℕ) : Type 0 where
   -- "The answers are, one by one, those of document 01's plain book fed the same calls.
-  pub the-answers : ns ≡ answers empty (map command_of qs)
+  pub the_answers : ns ≡ answers empty (map command_of qs)
   -- The book after the sequence holds exactly what the plain book then holds,
-  pub the-book : plain_of s n ≡ reached empty (map command_of qs)
+  pub the_book : plain_of s n ≡ reached empty (map command_of qs)
   -- and B1 to B9 hold in it.
-  pub the-rules : Passes (plain_of s n)
+  pub the_rules : Passes (plain_of s n)
   -- In every book so reached, the parts list given for each stored version equals document 01's, row for row." And so on, as above.
   pub the_parts : (c v : ℕ) → has_version (plain_of s n).specs c v ≡ true → (old : List ℕ) (a rows depth : ℕ) (out : List ℕ)
       → Listed s n c v old a rows depth out → PartsGiven s n c v old a rows depth out

@@ -17,8 +17,8 @@ demand-3 {s₀} {n₀} {s} {n} e calls =
     let z = every_sequence e calls in
     let ok = run-passes (empty_book_passes s₀ n₀ e) calls in
     record {
-      the-answers = z.0;
-      the-book = z.1;
-      the-rules = z.2;
+      the_answers = z.0;
+      the_book = z.1;
+      the_rules = z.2;
       the_parts = λ c v has_it old a rows depth out l. parts_given s n c v old a rows depth out ok has_it l;
     }

@@ -56,8 +56,8 @@ module _ (s n : List ℕ) (c v : ℕ) (old : List ℕ) (a rows depth : ℕ) (out
       record {
         given = λ h. (fits h, z.found (fits h));
         right = right;
-        gives-22 = (is_short, short);
-        never-short = λ h. fits (le_trans right.rows h);
+        gives_22 = (is_short, short);
+        never_short = λ h. fits (le_trans right.rows h);
         0_or_22 = elim (≤_or_< (length (parts (plain_of s n) c v)) (length old)) [
           | inl h ↦ inl (fits h)
           | inr h ↦ inr (short h)

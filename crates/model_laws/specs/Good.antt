@@ -20,18 +20,18 @@ use Rattle.model_laws.specs.MapLaws.{and_then_out, has_out, is_some_in, is_some_
 -- B1 and the number of versions
 pub record B1Facts (S : Specs) : Type 0 where
   pub apart : (c v f : ℕ) → requires S c v f ≡ true → provides S c f ≡ false
-  pub std-in : (c : ℕ) → specified S c ≡ true → has_version S c (standard S c) ≡ true
+  pub std_in : (c : ℕ) → specified S c ≡ true → has_version S c (standard S c) ≡ true
   pub few : (c : ℕ) → count versions (has_version S c) ≤ 8
 
 -- B2
 pub record B2Facts (S : Specs) (M : Modules) (Y : Systems) : Type 0 where
-  pub mod-spec : (c : ℕ) → is_module M c ≡ true → specified S c ≡ true
-  pub mod-sys : (c : ℕ) → is_module M c ≡ true → is_system Y c ≡ false
-  pub mod-covers : (c v : ℕ) → is_module M c ≡ true → is_some (implementation M c v) ≡ has_version S c v
-  pub sys-spec : (s : ℕ) → is_system Y s ≡ true → specified S s ≡ true
-  pub use-spec : (s c : ℕ) → usable Y s c ≡ true → specified S c ≡ true
-  pub sys-covers : (s v : ℕ) → is_system Y s ≡ true → composed Y s v ≡ has_version S s v
-  pub sys-bare : (s v f : ℕ) → is_system Y s ≡ true → requires S s v f ≡ false
+  pub mod_spec : (c : ℕ) → is_module M c ≡ true → specified S c ≡ true
+  pub mod_sys : (c : ℕ) → is_module M c ≡ true → is_system Y c ≡ false
+  pub mod_covers : (c v : ℕ) → is_module M c ≡ true → is_some (implementation M c v) ≡ has_version S c v
+  pub sys_spec : (s : ℕ) → is_system Y s ≡ true → specified S s ≡ true
+  pub use_spec : (s c : ℕ) → usable Y s c ≡ true → specified S c ≡ true
+  pub sys_covers : (s v : ℕ) → is_system Y s ≡ true → composed Y s v ≡ has_version S s v
+  pub sys_bare : (s v f : ℕ) → is_system Y s ≡ true → requires S s v f ≡ false
 
 pub record Good (b : Book) : Type 0 where
   pub spec_limits : SpecLimits b.specs
@@ -77,28 +77,28 @@ good→passes {b} g = record {
   where
     counts : one_to_eight b.specs ≡ true
     counts = unfold one_to_eight each_specified how_many in all_in _ _ (λ c l. imp_in _ _ (λ t. and_in _ _
-        (<?_in _ _ (version_counts versions _ _ (g.spec_limits.version< c _ (g.b1.std-in c t)) (g.b1.std-in c t)))
+        (<?_in _ _ (version_counts versions _ _ (g.spec_limits.version< c _ (g.b1.std_in c t)) (g.b1.std_in c t)))
         (≤?_in _ _ (g.b1.few c))))
 
     rule1 : B1 b.specs ≡ true
     rule1 = unfold B1 B1_at each_specified disjoint in all_in _ _ (λ c l. imp_in _ _ (λ t. and_in _ _
         (all_in _ _ (λ v k. all_in _ _ (λ f j. imp_in _ _ (λ q. not_in _ (g.b1.apart c v f q)))))
-        (g.b1.std-in c t)))
+        (g.b1.std_in c t)))
 
     defined_specified : (c : ℕ) → is_defined b.modules b.systems c ≡ true → specified b.specs c ≡ true
     defined_specified c t = unfold is_defined in elim (or_out (is_module b.modules c) (is_system b.systems c) t) [
-      | inl y ↦ g.b2.mod-spec c y
-      | inr y ↦ g.b2.sys-spec c y
+      | inl y ↦ g.b2.mod_spec c y
+      | inr y ↦ g.b2.sys_spec c y
     ]
 
     rule2 : B2 b.specs b.modules b.systems ≡ true
     rule2 = unfold B2 B2_at in all_in _ _ (λ c l.
         and_in _ _ (imp_in _ _ (defined_specified c))
-        (and_in _ _ (all_in _ _ (λ d k. imp_in _ _ (λ u. g.b2.use-spec c d u)))
-        (and_in _ _ (imp_in _ _ (λ y. not_in _ (g.b2.mod-sys c y)))
-        (and_in _ _ (imp_in _ _ (λ y. all_in _ _ (λ v k. iff_in _ _ (g.b2.mod-covers c v y))))
-        (and_in _ _ (imp_in _ _ (λ y. all_in _ _ (λ v k. iff_in _ _ (g.b2.sys-covers c v y))))
-        (imp_in _ _ (λ y. all_in _ _ (λ v k. all_in _ _ (λ f j. not_in _ (g.b2.sys-bare c v f y))))))))))
+        (and_in _ _ (all_in _ _ (λ d k. imp_in _ _ (λ u. g.b2.use_spec c d u)))
+        (and_in _ _ (imp_in _ _ (λ y. not_in _ (g.b2.mod_sys c y)))
+        (and_in _ _ (imp_in _ _ (λ y. all_in _ _ (λ v k. iff_in _ _ (g.b2.mod_covers c v y))))
+        (and_in _ _ (imp_in _ _ (λ y. all_in _ _ (λ v k. iff_in _ _ (g.b2.sys_covers c v y))))
+        (imp_in _ _ (λ y. all_in _ _ (λ v k. all_in _ _ (λ f j. not_in _ (g.b2.sys_bare c v f y))))))))))
 
     rules : B1_to_B9 b ≡ true
     rules = unfold B1_to_B9 B5_to_B9 in
@@ -120,7 +120,7 @@ module _ (S : Specs) (sl : SpecLimits S) where
         apart = λ c v f k. (let h = requires_version S c v f k in
             not_out _ (imp_out _ _ (all_out _ _ (all_out _ _ (and_l _ _ (at c (version_specified S c v h))) v (sl.version< c v h)) f
             (sl.required< c v f k)) k));
-        std-in = λ c k. and_r _ _ (at c k);
+        std_in = λ c k. and_r _ _ (at c k);
         few = λ c. elim (bool? (specified S c)) [
           | inl k ↦ ≤?_out _ _ (and_r _ _ (imp_out _ _ (all_out _ _ n c (sl.component< c k)) k))
           | inr z ↦ le_trans (count_mono versions (has_version S c) (λ i. false) (λ v l k. clash (version_specified S c v k) z)) (rw count_none zero-le)
@@ -135,17 +135,17 @@ module _ (S : Specs) (sl : SpecLimits S) where
         let of_module : (c : ℕ) → is_module M c ≡ true → _ = λ c k. at c (ml.component< c k) in
         let of_system : (s : ℕ) → is_system Y s ≡ true → _ = λ s k. at s (yl.component< s k) in
         record {
-          mod-spec = λ c k. imp_out _ _ (and_l _ _ (of_module c k)) (or_l _ _ k);
-          mod-sys = λ c k. not_out _ (imp_out _ _ (and_l _ _ (and_r _ _ (and_r _ _ (of_module c k)))) k);
-          mod-covers = λ c v k. (let covers = imp_out _ _ (and_l _ _ (and_r _ _ (and_r _ _ (and_r _ _ (of_module c k))))) k in iff→≡ _ _
+          mod_spec = λ c k. imp_out _ _ (and_l _ _ (of_module c k)) (or_l _ _ k);
+          mod_sys = λ c k. not_out _ (imp_out _ _ (and_l _ _ (and_r _ _ (and_r _ _ (of_module c k)))) k);
+          mod_covers = λ c v k. (let covers = imp_out _ _ (and_l _ _ (and_r _ _ (and_r _ _ (and_r _ _ (of_module c k))))) k in iff→≡ _ _
               (λ i. (let n = is_some_out _ i in sym (iff_out _ _ (all_out _ _ covers v (ml.implementation< c v n.0 n.1).0)) ∙ i))
               (λ h. iff_out _ _ (all_out _ _ covers v (sl.version< c v h)) ∙ h));
-          sys-spec = λ s k. imp_out _ _ (and_l _ _ (of_system s k)) (or_r _ _ k);
-          use-spec = λ s d u. imp_out _ _ (all_out _ _ (and_l _ _ (and_r _ _ (of_system s (usable_system Y s d u)))) d (yl.usable< s d u)) u;
-          sys-covers = λ s v k. (let covers = imp_out _ _ (and_l _ _ (and_r _ _ (and_r _ _ (and_r _ _ (and_r _ _ (of_system s k)))))) k in iff→≡ _ _
+          sys_spec = λ s k. imp_out _ _ (and_l _ _ (of_system s k)) (or_r _ _ k);
+          use_spec = λ s d u. imp_out _ _ (all_out _ _ (and_l _ _ (and_r _ _ (of_system s (usable_system Y s d u)))) d (yl.usable< s d u)) u;
+          sys_covers = λ s v k. (let covers = imp_out _ _ (and_l _ _ (and_r _ _ (and_r _ _ (and_r _ _ (and_r _ _ (of_system s k)))))) k in iff→≡ _ _
               (λ i. sym (iff_out _ _ (all_out _ _ covers v (yl.version< s v i))) ∙ i)
               (λ h. iff_out _ _ (all_out _ _ covers v (sl.version< s v h)) ∙ h));
-          sys-bare = λ s v f k. (let bare = imp_out _ _ (and_r _ _ (and_r _ _ (and_r _ _ (and_r _ _ (and_r _ _ (of_system s k)))))) k in
+          sys_bare = λ s v f k. (let bare = imp_out _ _ (and_r _ _ (and_r _ _ (and_r _ _ (and_r _ _ (and_r _ _ (of_system s k)))))) k in
               fails _ (λ q. clash q (not_out _ (all_out _ _ (all_out _ _ bare v (sl.version< s v (requires_version S s v f q))) f (sl.required< s v f q)))));
         }
 

@@ -33,7 +33,7 @@ no_way_back Y b4 s l y = not_out _ (imp_out _ _ (all_out _ _ b4 s l) y)
 -- what is asked of a book here: its numbers are below the limits, B4, and members are usable (B5)
 pub record Sound (Y : Systems) : Type 0 where
   pub usable< : (s c : ℕ) → usable Y s c ≡ true → (s < components) × (c < components)
-  pub sys-lim : (s : ℕ) → is_system Y s ≡ true → s < components
+  pub sys_lim : (s : ℕ) → is_system Y s ≡ true → s < components
   pub b4 : B4 Y ≡ true
   pub mem_usable : (s v c w : ℕ) → member Y s v c ≡ some w → usable Y s c ≡ true
 
@@ -59,7 +59,7 @@ module _ (Y : Systems) (ok : Sound Y) where
 
   pub high : (c : ℕ) → is_system Y c ≡ true → 0 < systems_below Y c
   unfolding systems_below is_below
-  high c y = omega (arith, count_strict components (λ i. false) (is_below Y c) (λ i k t. clash t refl) c (ok.sys-lim c y) refl (and_in _ _ y (or_l _ _ (==-same c))))
+  high c y = omega (arith, count_strict components (λ i. false) (is_below Y c) (λ i k t. clash t refl) c (ok.sys_lim c y) refl (and_in _ _ y (or_l _ _ (==-same c))))
 
   needs_to_suc : (n : ℕ) (S : Specs) (c v f : ℕ)
       → needs_to (suc n) S Y c v f ≡ (if is_system Y c then any components (λ d. has (member Y c v d) (λ w. needs_to n S Y d w f)) else requires S c v f)

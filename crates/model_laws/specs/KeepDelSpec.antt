@@ -77,20 +77,20 @@ module _ (b : Book) (g : Good b) (c : ℕ) (unused : (s : ℕ) → usable b.syst
       (record {
         apart = λ d v f t. (let n = spec_off₀ d (ver≢ d v (requires_version S₀ d v f t)) in
             provides_same _ S₀ d n f ∙ g.b1.apart d v f (sym (requires_same _ S₀ d n v f) ∙ t));
-        std-in = λ d t. (let n = spec_off₀ d (spec≢ d t) in
-            has_version_same _ S₀ d n _ ∙ ap (has_version b.specs d) (standard_same _ S₀ d n) ∙ g.b1.std-in d (spec_was d t));
+        std_in = λ d t. (let n = spec_off₀ d (spec≢ d t) in
+            has_version_same _ S₀ d n _ ∙ ap (has_version b.specs d) (standard_same _ S₀ d n) ∙ g.b1.std_in d (spec_was d t));
         few = λ d. le_trans (count_mono versions _ _ (λ v k t. sym (has_version_same _ S₀ d (spec_off₀ d (ver≢ d v t)) v) ∙ t)) (g.b1.few d);
       })
       (record {
-        mod-spec = λ d t. (let n = gone b g c d t in spec_is d n (g.b2.mod-spec d (sym (module_off _ c none d n) ∙ t)));
-        mod-sys = λ d t. (let n = gone b g c d t in not_system b g c d (g.b2.mod-sys d (sym (module_off _ c none d n) ∙ t)));
-        mod-covers = λ d v t. (let n = gone b g c d t in
-            ap is_some (implementation_off _ c none d v n) ∙ g.b2.mod-covers d v (sym (module_off _ c none d n) ∙ t) ∙ sym (has_version_same _ S₀ d (spec_off₀ d n) v));
-        sys-spec = λ s t. spec_is s (sys≢ b g c s t) (g.b2.sys-spec s (sys_was b g c s t));
-        use-spec = λ s d t. (let u = use_was b g c s d t in spec_is d (used≢ s d u) (g.b2.use-spec s d u));
-        sys-covers = λ s v t. (let n = sys≢ b g c s t in
-            composed_same _ _ s (system_off _ c none s n) v ∙ g.b2.sys-covers s v (sys_was b g c s t) ∙ sym (has_version_same _ S₀ s (spec_off₀ s n) v));
-        sys-bare = λ s v f t. requires_same _ S₀ s (spec_off₀ s (sys≢ b g c s t)) v f ∙ g.b2.sys-bare s v f (sys_was b g c s t);
+        mod_spec = λ d t. (let n = gone b g c d t in spec_is d n (g.b2.mod_spec d (sym (module_off _ c none d n) ∙ t)));
+        mod_sys = λ d t. (let n = gone b g c d t in not_system b g c d (g.b2.mod_sys d (sym (module_off _ c none d n) ∙ t)));
+        mod_covers = λ d v t. (let n = gone b g c d t in
+            ap is_some (implementation_off _ c none d v n) ∙ g.b2.mod_covers d v (sym (module_off _ c none d n) ∙ t) ∙ sym (has_version_same _ S₀ d (spec_off₀ d n) v));
+        sys_spec = λ s t. spec_is s (sys≢ b g c s t) (g.b2.sys_spec s (sys_was b g c s t));
+        use_spec = λ s d t. (let u = use_was b g c s d t in spec_is d (used≢ s d u) (g.b2.use_spec s d u));
+        sys_covers = λ s v t. (let n = sys≢ b g c s t in
+            composed_same _ _ s (system_off _ c none s n) v ∙ g.b2.sys_covers s v (sys_was b g c s t) ∙ sym (has_version_same _ S₀ s (spec_off₀ s n) v));
+        sys_bare = λ s v f t. requires_same _ S₀ s (spec_off₀ s (sys≢ b g c s t)) v f ∙ g.b2.sys_bare s v f (sys_was b g c s t);
       })
       (less_B4 b g c)
 

@@ -68,16 +68,16 @@ add_mod b c is g h =
       ];
     })
     (record {
-      mod-spec = λ d t. elim (same? d c) [ inl q ↦ rw q y.1.1.1.0 | inr n ↦ g.b2.mod-spec d (sym (module_off M c new d n) ∙ t) ];
-      mod-sys = λ d t. elim (same? d c) [ inl q ↦ rw q (not_defined _ _ c y.1.1.1.1.0).1 | inr n ↦ g.b2.mod-sys d (sym (module_off M c new d n) ∙ t) ];
-      mod-covers = λ d v t. elim (same? d c) [
+      mod_spec = λ d t. elim (same? d c) [ inl q ↦ rw q y.1.1.1.0 | inr n ↦ g.b2.mod_spec d (sym (module_off M c new d n) ∙ t) ];
+      mod_sys = λ d t. elim (same? d c) [ inl q ↦ rw q (not_defined _ _ c y.1.1.1.1.0).1 | inr n ↦ g.b2.mod_sys d (sym (module_off M c new d n) ∙ t) ];
+      mod_covers = λ d v t. elim (same? d c) [
         | inl q ↦ rw q (ap is_some (implementation_at_lem M c new v) ∙ beside_elem is v ∙ ex v)
-        | inr n ↦ ap is_some (implementation_off M c new d v n) ∙ g.b2.mod-covers d v (sym (module_off M c new d n) ∙ t)
+        | inr n ↦ ap is_some (implementation_off M c new d v n) ∙ g.b2.mod_covers d v (sym (module_off M c new d n) ∙ t)
       ];
-      sys-spec = g.b2.sys-spec;
-      use-spec = g.b2.use-spec;
-      sys-covers = g.b2.sys-covers;
-      sys-bare = g.b2.sys-bare;
+      sys_spec = g.b2.sys_spec;
+      use_spec = g.b2.use_spec;
+      sys_covers = g.b2.sys_covers;
+      sys_bare = g.b2.sys_bare;
     })
 
 module _ (b : Book) (g : Good b) (c : ℕ) where
@@ -102,11 +102,11 @@ del_mod b c g h =
     let M = b.modules in
     new_modules_lem b (put c none M) g (less_modules b g c)
     (record {
-      mod-spec = λ d t. g.b2.mod-spec d (sym (module_off M c none d (gone b g c d t)) ∙ t);
-      mod-sys = λ d t. g.b2.mod-sys d (sym (module_off M c none d (gone b g c d t)) ∙ t);
-      mod-covers = λ d v t. ap is_some (implementation_off M c none d v (gone b g c d t)) ∙ g.b2.mod-covers d v (sym (module_off M c none d (gone b g c d t)) ∙ t);
-      sys-spec = g.b2.sys-spec;
-      use-spec = g.b2.use-spec;
-      sys-covers = g.b2.sys-covers;
-      sys-bare = g.b2.sys-bare;
+      mod_spec = λ d t. g.b2.mod_spec d (sym (module_off M c none d (gone b g c d t)) ∙ t);
+      mod_sys = λ d t. g.b2.mod_sys d (sym (module_off M c none d (gone b g c d t)) ∙ t);
+      mod_covers = λ d v t. ap is_some (implementation_off M c none d v (gone b g c d t)) ∙ g.b2.mod_covers d v (sym (module_off M c none d (gone b g c d t)) ∙ t);
+      sys_spec = g.b2.sys_spec;
+      use_spec = g.b2.use_spec;
+      sys_covers = g.b2.sys_covers;
+      sys_bare = g.b2.sys_bare;
     })

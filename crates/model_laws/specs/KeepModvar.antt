@@ -22,13 +22,13 @@ use Rattle.model_laws.specs.Notions.{own}
 -- a version of a module changes, and no composition holds this pair
 module _ (b : Book) (g : Good b) (c v : ℕ) (q : Option Set) (i : Option ℕ) (agree : is_some i ≡ is_some q) (implementation< : (n : ℕ) → i ≡ some n → (v < versions) × (n < implementations))
     (is_m : is_module b.modules c ≡ true) (fit : VarFit b.specs c v q)
-    (Free-of : (s w d x : ℕ) → member b.systems s w d ≡ some x → d ≡ c → x ≢ v) where
+    (free_of : (s w d x : ℕ) → member b.systems s w d ≡ some x → d ≡ c → x ≢ v) where
   there : specified b.specs c ≡ true
-  there = g.b2.mod-spec c is_m
+  there = g.b2.mod_spec c is_m
 
   -- a system is another component
   other : (s w : ℕ) → is_system b.systems s ≡ true → s ≡ c → w ≢ v
-  other s w y e = clash (rw e at y) (g.b2.mod-sys c is_m)
+  other s w y e = clash (rw e at y) (g.b2.mod_sys c is_m)
 
   modvar : Good (record { specs = S₁ b g c v q there fit; modules = change c (put v i) b.modules; systems = b.systems })
   modvar =
@@ -41,8 +41,8 @@ module _ (b : Book) (g : Good b) (c v : ℕ) (q : Option Set) (i : Option ℕ) (
         members = λ s w d k. refl;
         own = λ s f y. spec_provides S c v q there s f;
         prov = λ s d f u. spec_provides S c v q there d f;
-        held = λ s w d x e. spec_version_lem S c v q there d x (Free-of s w d x e);
-        req = λ s w d x f e. spec_requires S c v q there d x f (Free-of s w d x e);
+        held = λ s w d x e. spec_version_lem S c v q there d x (free_of s w d x e);
+        req = λ s w d x f e. spec_requires S c v q there d x f (free_of s w d x e);
         kind = λ s w d x e. refl;
         same = λ s w d x k e. refl;
       })
@@ -56,16 +56,16 @@ module _ (b : Book) (g : Good b) (c v : ℕ) (q : Option Set) (i : Option ℕ) (
       })
       g.system_limits (var_one b g c v q there fit)
       (record {
-        mod-spec = λ d t. spec_specified S c v q there d ∙ g.b2.mod-spec d (sym (mod_is M c v i is_m d) ∙ t);
-        mod-sys = λ d t. g.b2.mod-sys d (sym (mod_is M c v i is_m d) ∙ t);
-        mod-covers = λ d w t. elim (pair? c v d w) [
+        mod_spec = λ d t. spec_specified S c v q there d ∙ g.b2.mod_spec d (sym (mod_is M c v i is_m d) ∙ t);
+        mod_sys = λ d t. g.b2.mod_sys d (sym (mod_is M c v i is_m d) ∙ t);
+        mod_covers = λ d w t. elim (pair? c v d w) [
           | inl k ↦ rw (k.0, k.1) (ap is_some (mod_at M c v i is_m) ∙ agree ∙ sym (version_at_lem b g c v q there fit))
-          | inr k ↦ ap is_some (mod_off M c v i is_m d w k) ∙ g.b2.mod-covers d w (sym (mod_is M c v i is_m d) ∙ t) ∙ sym (spec_version_lem S c v q there d w k)
+          | inr k ↦ ap is_some (mod_off M c v i is_m d w k) ∙ g.b2.mod_covers d w (sym (mod_is M c v i is_m d) ∙ t) ∙ sym (spec_version_lem S c v q there d w k)
         ];
-        sys-spec = λ s y. spec_specified S c v q there s ∙ g.b2.sys-spec s y;
-        use-spec = λ s d u. spec_specified S c v q there d ∙ g.b2.use-spec s d u;
-        sys-covers = λ s w y. g.b2.sys-covers s w y ∙ sym (spec_version_lem S c v q there s w (other s w y));
-        sys-bare = λ s w f y. spec_requires S c v q there s w f (other s w y) ∙ g.b2.sys-bare s w f y;
+        sys_spec = λ s y. spec_specified S c v q there s ∙ g.b2.sys_spec s y;
+        use_spec = λ s d u. spec_specified S c v q there d ∙ g.b2.use_spec s d u;
+        sys_covers = λ s w y. g.b2.sys_covers s w y ∙ sym (spec_version_lem S c v q there s w (other s w y));
+        sys_bare = λ s w f y. spec_requires S c v q there s w f (other s w y) ∙ g.b2.sys_bare s w f y;
       })
       g.b4
 
@@ -84,7 +84,7 @@ add_modvar b c v rs i g h =
       provided< = λ f t. below_elem facilities rs (and_l _ _ (and_r _ _ (and_r _ _ l))) f t;
       apart = λ f t. not_out _ (every-elem _ rs y.1.1.1.1.0 f t);
       std = λ e. refl;
-      few = add_few b.specs c v (set_of rs) (g.b2.mod-spec c y.1.0) (<?_out _ _ y.1.1.1.0);
+      few = add_few b.specs c v (set_of rs) (g.b2.mod_spec c y.1.0) (<?_out _ _ y.1.1.1.0);
     })
     (λ s w d x e k z. clash (ap₂ (has_version b.specs) (sym k) (sym z) ∙ member_version_lem b g s w d x e) new)
 
@@ -93,5 +93,5 @@ unfolding answer questions after is_some
 del_modvar b c v g h =
     let y = all_yes (questions b (DEL-MODVAR c v)) (omega arith) h in
     modvar b g c v none none refl (λ n e. no_some e) y.1.0
-    (del_fit b g c v (g.b2.mod-spec c y.1.0) (λ e. clash (==-in _ _ e) (not_out _ y.1.1.1.0)))
+    (del_fit b g c v (g.b2.mod_spec c y.1.0) (λ e. clash (==-in _ _ e) (not_out _ y.1.1.1.0)))
     (not_held b g c v y.1.1.1.1.0)

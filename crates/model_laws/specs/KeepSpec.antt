@@ -29,7 +29,7 @@ record Fit (x : Spec) : Type 0 where
   req< : (v : ℕ) (q : Set) → x.req v ≡ some q → v < versions
   fac< : (v f : ℕ) (q : Set) → x.req v ≡ some q → q f ≡ true → f < facilities
   apart : (v f : ℕ) (q : Set) → x.req v ≡ some q → q f ≡ true → x.prov f ≡ false
-  std-in : is_some (x.req x.std) ≡ true
+  std_in : is_some (x.req x.std) ≡ true
   few : count versions (λ v. is_some (x.req v)) ≤ 8
 
 module _ (b : Book) (g : Good b) (c : ℕ) (x : Spec) (component< : c < components) (fit : Fit x) (fresh : specified b.specs c ≡ false) where
@@ -70,10 +70,10 @@ module _ (b : Book) (g : Good b) (c : ℕ) (x : Spec) (component< : c < componen
           rw q (provides_at_lem S' c x at f ∙ fit.apart v f r.0 r.1 r.2))
       | inr n ↦ provides_same _ S' d (off d n) f ∙ g.b1.apart d v f (sym (requires_same _ S' d (off d n) v f) ∙ t)
     ];
-    std-in = λ d t. elim (same? d c) [
-      | inl q ↦ rw q (has_version_at S' c x at _ ∙ ap (λ (v : ℕ). is_some (x.req v)) (standard_at_lem S' c x at) ∙ fit.std-in)
+    std_in = λ d t. elim (same? d c) [
+      | inl q ↦ rw q (has_version_at S' c x at _ ∙ ap (λ (v : ℕ). is_some (x.req v)) (standard_at_lem S' c x at) ∙ fit.std_in)
       | inr n ↦ has_version_same _ S' d (off d n) _ ∙ ap (has_version b.specs d) (standard_same _ S' d (off d n))
-          ∙ g.b1.std-in d (sym (specified_same _ S' d (off d n)) ∙ t)
+          ∙ g.b1.std_in d (sym (specified_same _ S' d (off d n)) ∙ t)
     ];
     few = λ d. elim (same? d c) [
       | inl q ↦ rw (q, fun_ext (has_version_at S' c x at)) fit.few
@@ -88,13 +88,13 @@ module _ (b : Book) (g : Good b) (c : ℕ) (x : Spec) (component< : c < componen
   keeps_two =
       let t = g.b2 in
       record {
-        mod-spec = λ d y. specified' d (t.mod-spec d y);
-        mod-sys = t.mod-sys;
-        mod-covers = λ d v y. t.mod-covers d v y ∙ sym (has_version_same _ S' d (old d (t.mod-spec d y)) v);
-        sys-spec = λ s y. specified' s (t.sys-spec s y);
-        use-spec = λ s d u. specified' d (t.use-spec s d u);
-        sys-covers = λ s v y. t.sys-covers s v y ∙ sym (has_version_same _ S' s (old s (t.sys-spec s y)) v);
-        sys-bare = λ s v f y. requires_same _ S' s (old s (t.sys-spec s y)) v f ∙ t.sys-bare s v f y;
+        mod_spec = λ d y. specified' d (t.mod_spec d y);
+        mod_sys = t.mod_sys;
+        mod_covers = λ d v y. t.mod_covers d v y ∙ sym (has_version_same _ S' d (old d (t.mod_spec d y)) v);
+        sys_spec = λ s y. specified' s (t.sys_spec s y);
+        use_spec = λ s d u. specified' d (t.use_spec s d u);
+        sys_covers = λ s v y. t.sys_covers s v y ∙ sym (has_version_same _ S' s (old s (t.sys_spec s y)) v);
+        sys_bare = λ s v f y. requires_same _ S' s (old s (t.sys_spec s y)) v f ∙ t.sys_bare s v f y;
       }
 
   frame : Frame b.specs S' b.systems b.systems
@@ -103,8 +103,8 @@ module _ (b : Book) (g : Good b) (c : ℕ) (x : Spec) (component< : c < componen
     uses = λ s d y. refl;
     comps = λ s v k. k;
     members = λ s v d k. refl;
-    own = λ s f y. provides_same _ S' s (old s (g.b2.sys-spec s y)) f;
-    prov = λ s d f u. provides_same _ S' d (old d (g.b2.use-spec s d u)) f;
+    own = λ s f y. provides_same _ S' s (old s (g.b2.sys_spec s y)) f;
+    prov = λ s d f u. provides_same _ S' d (old d (g.b2.use_spec s d u)) f;
     held = λ s v d w e. has_version_same _ S' d (of_member_lem s v d w e) w;
     req = λ s v d w f e. requires_same _ S' d (of_member_lem s v d w e) w f;
     kind = λ s v d w e. refl;
@@ -129,7 +129,7 @@ add_spec b c ps vs s g h =
           below_elem facilities o.0 (beside_second (each_below facilities) vs fs< v o.0 o.1) f (ap (λ (z : Set). z f) o.2 ∙ t));
       apart = λ v f q e t. (let o = option_map_out set_of _ q e in
           not_out _ (every-elem _ o.0 (beside_second (free (set_of ps)) vs y.1.1.1.1.1.0 v o.0 o.1) f (ap (λ (z : Set). z f) o.2 ∙ t)));
-      std-in = option_map-some set_of _ ∙ beside_elem vs s ∙ y.1.1.1.1.1.1.0;
+      std_in = option_map-some set_of _ ∙ beside_elem vs s ∙ y.1.1.1.1.1.1.0;
       few = rw (fun_ext (λ v. option_map-some set_of (beside vs v) ∙ beside_elem vs v))
           (le_trans (count_list versions (firsts vs)) (rw length-firsts (≤?_out _ _ y.1.1.1.1.0)));
     } in

@@ -25,13 +25,13 @@ use Rattle.model_laws.specs.MapLaws.{and_then_out, is_some_no, option_map_out, o
 
 pub standard_lim : (b : Book) → Good b → (d : ℕ) → standard b.specs d < versions
 standard_lim b g d =
-    elim (bool? (specified b.specs d)) [ inl t ↦ g.spec_limits.version< d _ (g.b1.std-in d t) | inr n ↦ none-standard b.specs d n ]
+    elim (bool? (specified b.specs d)) [ inl t ↦ g.spec_limits.version< d _ (g.b1.std_in d t) | inr n ↦ none-standard b.specs d n ]
   where
     none-standard : (S : Specs) (d : ℕ) → specified S d ≡ false → standard S d < versions
-    none-standard S d n = rw (zero-standard S d n) (omega arith)
+    none-standard S d n = rw (zero_standard S d n) (omega arith)
       where
-        zero-standard : (S : Specs) (d : ℕ) → specified S d ≡ false → standard S d ≡ 0
-        zero-standard S d n = unfold specified standard or_else option_map in ap (λ (o : Option Spec). or_else (option_map (λ x. x.std) o) 0) (is_some_no (S d) n)
+        zero_standard : (S : Specs) (d : ℕ) → specified S d ≡ false → standard S d ≡ 0
+        zero_standard S d n = unfold specified standard or_else option_map in ap (λ (o : Option Spec). or_else (option_map (λ x. x.std) o) 0) (is_some_no (S d) n)
 
 -- the numbers that a composition stores
 pub stored_lim : (b : Book) → Good b → (ms : Members) → every member_below ms ≡ true → (d w : ℕ) → stored b.specs ms d ≡ some w → (d < components) × (w < versions)
@@ -88,7 +88,7 @@ add_sys b c us ks g h =
     let ex = exactly-all b c (firsts ks) g.spec_limits vs< y.1.1.1.1.1.0 in
     let rest = y.1.1.1.1.1.1 in
     let same = system_off Y c new in
-    let at-comp = composition_at_lem Y c new in
+    let at_comp = composition_at_lem Y c new in
     from_21 (after b (ADD-SYS c us ks)) rest.1.1.1.1.0 g.spec_limits g.module_limits
     (record {
       component< = λ d t. elim (same? d c) [ inl q ↦ rw q (<?_out _ _ (and_l _ _ l)) | inr n ↦ g.system_limits.component< d (sym (is_system_same Y _ d (same d n)) ∙ t) ];
@@ -97,33 +97,33 @@ add_sys b c us ks g h =
         | inr n ↦ g.system_limits.usable< s d (sym (usable_same Y _ s (same s n) d) ∙ t)
       ];
       version< = λ s v t. elim (same? s c) [
-        | inl q ↦ below_elem versions (firsts ks) vs< v (sym (comp_elem ks S v) ∙ sym (ap is_some (at-comp v)) ∙ (rw q at t))
+        | inl q ↦ below_elem versions (firsts ks) vs< v (sym (comp_elem ks S v) ∙ sym (ap is_some (at_comp v)) ∙ (rw q at t))
         | inr n ↦ g.system_limits.version< s v (sym (composed_same Y _ s (same s n) v) ∙ t)
       ];
       member< = λ s v d w e. elim (same? s c) [
         | inl q ↦ (let k = member_out _ c v d w (rw q at e) in
-            let o = option_map_out _ _ k.0 (sym (at-comp v) ∙ k.1) in
+            let o = option_map_out _ _ k.0 (sym (at_comp v) ∙ k.1) in
             stored_lim b g o.0 (beside_second (every member_below) ks ms< v o.0 o.1) d w (ap (λ (m : Map ℕ). m d) o.2 ∙ k.2))
         | inr n ↦ g.system_limits.member< s v d w (sym (member_same Y _ s (same s n) v d) ∙ e)
       ];
     })
     g.b1
     (record {
-      mod-spec = g.b2.mod-spec;
-      mod-sys = λ d t. is_system_same Y _ d (same d (λ e. clash (rw e at t) un.0)) ∙ g.b2.mod-sys d t;
-      mod-covers = g.b2.mod-covers;
-      sys-spec = λ s t. elim (same? s c) [ inl q ↦ rw q y.1.1.1.0 | inr n ↦ g.b2.sys-spec s (sym (is_system_same Y _ s (same s n)) ∙ t) ];
-      use-spec = λ s d t. elim (same? s c) [
+      mod_spec = g.b2.mod_spec;
+      mod_sys = λ d t. is_system_same Y _ d (same d (λ e. clash (rw e at t) un.0)) ∙ g.b2.mod_sys d t;
+      mod_covers = g.b2.mod_covers;
+      sys_spec = λ s t. elim (same? s c) [ inl q ↦ rw q y.1.1.1.0 | inr n ↦ g.b2.sys_spec s (sym (is_system_same Y _ s (same s n)) ∙ t) ];
+      use_spec = λ s d t. elim (same? s c) [
         | inl q ↦ every-elem _ us rest.1.0 d (sym (usable_at_lem Y c new d) ∙ rw q at t)
-        | inr n ↦ g.b2.use-spec s d (sym (usable_same Y _ s (same s n) d) ∙ t)
+        | inr n ↦ g.b2.use_spec s d (sym (usable_same Y _ s (same s n) d) ∙ t)
       ];
-      sys-covers = λ s v t. elim (same? s c) [
-        | inl q ↦ rw q (ap is_some (at-comp v) ∙ comp_elem ks S v ∙ ex v)
-        | inr n ↦ composed_same Y _ s (same s n) v ∙ g.b2.sys-covers s v (sym (is_system_same Y _ s (same s n)) ∙ t)
+      sys_covers = λ s v t. elim (same? s c) [
+        | inl q ↦ rw q (ap is_some (at_comp v) ∙ comp_elem ks S v ∙ ex v)
+        | inr n ↦ composed_same Y _ s (same s n) v ∙ g.b2.sys_covers s v (sym (is_system_same Y _ s (same s n)) ∙ t)
       ];
-      sys-bare = λ s v f t. elim (same? s c) [
+      sys_bare = λ s v f t. elim (same? s c) [
         | inl q ↦ rw q (fails _ (λ k. clash k (not_out _ (all_out _ _ (all_out _ _ rest.0 v (g.spec_limits.version< c v (requires_version S c v f k))) f (g.spec_limits.required< c v f k)))))
-        | inr n ↦ g.b2.sys-bare s v f (sym (is_system_same Y _ s (same s n)) ∙ t)
+        | inr n ↦ g.b2.sys_bare s v f (sym (is_system_same Y _ s (same s n)) ∙ t)
       ];
     })
     rest.1.1.0 rest.1.1.1.0
@@ -181,13 +181,13 @@ del_sys b c g h =
     let t = g.b2 in
     from_21 (after b (DEL-SYS c)) y.1.1.0 g.spec_limits g.module_limits (less_systems b g c) g.b1
     (record {
-      mod-spec = t.mod-spec;
-      mod-sys = λ d k. not_system b g c d (t.mod-sys d k);
-      mod-covers = t.mod-covers;
-      sys-spec = λ s k. t.sys-spec s (sys_was b g c s k);
-      use-spec = λ s d k. t.use-spec s d (use_was b g c s d k);
-      sys-covers = λ s v k. composed_same _ _ s (system_off _ c none s (sys≢ b g c s k)) v ∙ t.sys-covers s v (sys_was b g c s k);
-      sys-bare = λ s v f k. t.sys-bare s v f (sys_was b g c s k);
+      mod_spec = t.mod_spec;
+      mod_sys = λ d k. not_system b g c d (t.mod_sys d k);
+      mod_covers = t.mod_covers;
+      sys_spec = λ s k. t.sys_spec s (sys_was b g c s k);
+      use_spec = λ s d k. t.use_spec s d (use_was b g c s d k);
+      sys_covers = λ s v k. composed_same _ _ s (system_off _ c none s (sys≢ b g c s k)) v ∙ t.sys_covers s v (sys_was b g c s k);
+      sys_bare = λ s v f k. t.sys_bare s v f (sys_was b g c s k);
     })
     (B3_same _ _ _ _ g.system_limits (λ d f. refl) (sys_was b g c) (λ s d k. usable_same _ _ s (system_off _ c none s (sys≢ b g c s k)) d) g.b3)
     (less_B4 b g c)

@@ -26,7 +26,7 @@ module _ (b : Book) (g : Good b) (c v : ℕ) (q : Option Set) (m : Option (Map �
     (member< : (d w : ℕ) → and_then m (λ k. k d) ≡ some w → (d < components) × (w < versions))
     (sys : is_system b.systems c ≡ true) (fit : VarFit b.specs c v q) where
   there₂ : specified b.specs c ≡ true
-  there₂ = g.b2.sys-spec c sys
+  there₂ = g.b2.sys_spec c sys
 
   abbrev S₂ : Specs
   S₂ = change c (with_version v q) b.specs
@@ -65,20 +65,20 @@ module _ (b : Book) (g : Good b) (c v : ℕ) (q : Option Set) (m : Option (Map �
   sysvar_two : B2Facts S₂ b.modules Y₂
   sysvar_two =
       let S = b.specs in let Y = b.systems in
-      let n : (d w : ℕ) → is_module b.modules d ≡ true → d ≡ c → w ≢ v = λ d w t e. clash sys (rw e at (g.b2.mod-sys d t)) in
+      let n : (d w : ℕ) → is_module b.modules d ≡ true → d ≡ c → w ≢ v = λ d w t e. clash sys (rw e at (g.b2.mod_sys d t)) in
       record {
-        mod-spec = λ d t. spec_specified S c v q there₂ d ∙ g.b2.mod-spec d t;
-        mod-sys = λ d t. sys_is Y c v m sys d ∙ g.b2.mod-sys d t;
-        mod-covers = λ d w t. g.b2.mod-covers d w t ∙ sym (spec_version_lem S c v q there₂ d w (n d w t));
-        sys-spec = λ s t. spec_specified S c v q there₂ s ∙ g.b2.sys-spec s (is s t);
-        use-spec = λ s d t. spec_specified S c v q there₂ d ∙ g.b2.use-spec s d (uses₂ s d t);
-        sys-covers = λ s w t. elim (pair? c v s w) [
+        mod_spec = λ d t. spec_specified S c v q there₂ d ∙ g.b2.mod_spec d t;
+        mod_sys = λ d t. sys_is Y c v m sys d ∙ g.b2.mod_sys d t;
+        mod_covers = λ d w t. g.b2.mod_covers d w t ∙ sym (spec_version_lem S c v q there₂ d w (n d w t));
+        sys_spec = λ s t. spec_specified S c v q there₂ s ∙ g.b2.sys_spec s (is s t);
+        use_spec = λ s d t. spec_specified S c v q there₂ d ∙ g.b2.use_spec s d (uses₂ s d t);
+        sys_covers = λ s w t. elim (pair? c v s w) [
           | inl k ↦ rw (k.0, k.1) (composed_at ∙ agree ∙ sym (version_at_lem b g c v q there₂ fit))
-          | inr k ↦ sys_composed Y c v m sys s w k ∙ g.b2.sys-covers s w (is s t) ∙ sym (spec_version_lem S c v q there₂ s w k)
+          | inr k ↦ sys_composed Y c v m sys s w k ∙ g.b2.sys_covers s w (is s t) ∙ sym (spec_version_lem S c v q there₂ s w k)
         ];
-        sys-bare = λ s w f t. elim (pair? c v s w) [
+        sys_bare = λ s w f t. elim (pair? c v s w) [
           | inl k ↦ rw (k.0, k.1) (requires_at₁ b g c v q there₂ fit f ∙ bare f)
-          | inr k ↦ spec_requires S c v q there₂ s w f k ∙ g.b2.sys-bare s w f (is s t)
+          | inr k ↦ spec_requires S c v q there₂ s w f k ∙ g.b2.sys_bare s w f (is s t)
         ];
       }
 
@@ -104,12 +104,12 @@ add_sysvar b c v ms g h =
       provided< = λ f t. clash t refl;
       apart = λ f t. clash t refl;
       std = λ e. refl;
-      few = add_few b.specs c v no_facility (g.b2.sys-spec c ys.0) (<?_out _ _ ys.1.1.0);
+      few = add_few b.specs c v no_facility (g.b2.sys_spec c ys.0) (<?_out _ _ ys.1.1.0);
     } in
     from_21 (after b (ADD-SYSVAR c v ms)) ys.1.1.1.0
-    (var_slim b g c v q (g.b2.sys-spec c ys.0) fit) g.module_limits
+    (var_slim b g c v q (g.b2.sys_spec c ys.0) fit) g.module_limits
     (sysvar_lim b g c v q m refl bare module_limits ys.0 fit)
-    (var_one b g c v q (g.b2.sys-spec c ys.0) fit)
+    (var_one b g c v q (g.b2.sys_spec c ys.0) fit)
     (sysvar_two b g c v q m refl bare module_limits ys.0 fit)
     (sysvar_B3 b g c v q m refl bare module_limits ys.0 fit)
     (sysvar_B4 b g c v q m refl bare module_limits ys.0 fit)
@@ -120,9 +120,9 @@ del_sysvar b c v g h =
     let y = all_yes (questions b (DEL-SYSVAR c v)) (omega arith) h in
     let sys = y.1.0 in
     let S = b.specs in let Y = b.systems in
-    let there = g.b2.sys-spec c sys in
+    let there = g.b2.sys_spec c sys in
     let fit = del_fit b g c v there (λ e. clash (==-in _ _ e) (not_out _ y.1.1.1.0)) in
-    let Free-of = not_held b g c v y.1.1.1.1.0 in
+    let free_of = not_held b g c v y.1.1.1.1.0 in
     let q : Option Set = none in
     let m : Option (Map ℕ) = none in
     let bare : (f : ℕ) → has q (λ r. r f) ≡ false = λ f. refl in
@@ -140,10 +140,10 @@ del_sysvar b c v g h =
       members = λ s w d t. sys_member Y c v m sys s w d (left s w t);
       own = λ s f y. spec_provides S c v q there s f;
       prov = λ s d f u. spec_provides S c v q there d f;
-      held = λ s w d x e. spec_version_lem S c v q there d x (Free-of s w d x (was s w d x e));
-      req = λ s w d x f e. spec_requires S c v q there d x f (Free-of s w d x (was s w d x e));
+      held = λ s w d x e. spec_version_lem S c v q there d x (free_of s w d x (was s w d x e));
+      req = λ s w d x f e. spec_requires S c v q there d x f (free_of s w d x (was s w d x e));
       kind = λ s w d x e. sys_is Y c v m sys d;
-      same = λ s w d x k e. sys_member Y c v m sys d x k (Free-of s w d x (was s w d x e));
+      same = λ s w d x k e. sys_member Y c v m sys d x k (free_of s w d x (was s w d x e));
     })
     (var_slim b g c v q there fit) g.module_limits
     (sysvar_lim b g c v q m refl bare module_limits sys fit)

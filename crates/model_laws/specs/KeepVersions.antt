@@ -57,9 +57,9 @@ module _ (b : Book) (g : Good b) (c v : ℕ) (q : Option Set) (there : specified
       | inl e ↦ rw e.0 (fit.apart f (sym (requires_at₁ f) ∙ rw (e.0, e.1) at t))
       | inr n ↦ g.b1.apart d w f (sym (spec_requires _ c v q there d w f n) ∙ t)
     ];
-    std-in = λ d t. ap (has_version S₁ d) (spec_standard _ c v q there d) ∙ elim (pair? c v d (standard b.specs d)) [
+    std_in = λ d t. ap (has_version S₁ d) (spec_standard _ c v q there d) ∙ elim (pair? c v d (standard b.specs d)) [
       | inl e ↦ ap₂ (has_version S₁) e.0 e.1 ∙ version_at_lem ∙ fit.std (ap (standard b.specs) (sym e.0) ∙ e.1)
-      | inr n ↦ spec_version_lem _ c v q there d _ n ∙ g.b1.std-in d (sym (spec_specified _ c v q there d) ∙ t)
+      | inr n ↦ spec_version_lem _ c v q there d _ n ∙ g.b1.std_in d (sym (spec_specified _ c v q there d) ∙ t)
     ];
     few = λ d. elim (same? d c) [
       | inl e ↦ rw e fit.few

@@ -16,8 +16,8 @@ use Rattle.model_laws.specs.Frame.{system_in, system_out}
 use Rattle.model_laws.specs.Good.{Good}
 use Rattle.model_laws.specs.Heights.{Sound, bound, falls, high, needs_other, needs_system, usable_system}
 use Rattle.model_laws.specs.MapLaws.{has_in, has_out}
-use Rattle.model_laws.specs.Notions.{AllYes, FirstNo, MadeFrom, Needs, Reaches, itself, member_of, no-here, none_left, of_member}
-use Rattle.model_laws.specs.Notions.{own, systems_below, yes_all, yes-here}
+use Rattle.model_laws.specs.Notions.{AllYes, FirstNo, MadeFrom, Needs, Reaches, itself, member_of, no_here, none_left, of_member}
+use Rattle.model_laws.specs.Notions.{own, systems_below, yes_all, yes_here}
 use Rattle.model_laws.specs.Parts.{good→sound, part_closed, part_self}
 use Rattle.model_laws.specs.Reach.{reaches_all, reaches_sound}
 
@@ -94,8 +94,8 @@ part_means b g c v h d w = (part_sound components b.systems c v d w, part_all b 
 
 pub first_no_lem : {qs : List Question} {n : ℕ} → FirstNo qs n → first_no qs ≡ n
 unfolding first_no
-first_no_lem (no-here e) = if-false _ _ _ e
-first_no_lem (yes-here e r) = if-true _ _ _ e ∙ first_no_lem r
+first_no_lem (no_here e) = if-false _ _ _ e
+first_no_lem (yes_here e r) = if-true _ _ _ e ∙ first_no_lem r
 
 pub no_no : {qs : List Question} → AllYes qs → first_no qs ≡ 0
 unfolding first_no
@@ -107,6 +107,6 @@ pub first_or_none : (qs : List Question) → AllYes qs ⊎ ((n : ℕ) × FirstNo
 first_or_none [] = inl none_left
 first_or_none (q ∷ qs) =
     elim (bool? q.1) [
-      | inl y ↦ elim (first_or_none qs) [ inl r ↦ inl (yes_all y r) | inr r ↦ inr (r.0, yes-here y r.1) ]
-      | inr n ↦ inr (q.0, no-here n)
+      | inl y ↦ elim (first_or_none qs) [ inl r ↦ inl (yes_all y r) | inr r ↦ inr (r.0, yes_here y r.1) ]
+      | inr n ↦ inr (q.0, no_here n)
     ]

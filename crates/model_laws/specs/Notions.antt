@@ -97,8 +97,8 @@ how_many_pairs b = pairs (has_version b.specs)
 
 -- the number n stands at the first no of the questions
 pub data FirstNo : List Question → ℕ → Type 0 where
-  no-here : {n : ℕ} {t : Bool} {qs : List Question} → t ≡ false → FirstNo ((n, t) ∷ qs) n
-  yes-here : {m n : ℕ} {t : Bool} {qs : List Question} → t ≡ true → FirstNo qs n → FirstNo ((m, t) ∷ qs) n
+  no_here : {n : ℕ} {t : Bool} {qs : List Question} → t ≡ false → FirstNo ((n, t) ∷ qs) n
+  yes_here : {m n : ℕ} {t : Bool} {qs : List Question} → t ≡ true → FirstNo qs n → FirstNo ((m, t) ∷ qs) n
 
 -- every question has its yes
 pub data AllYes : List Question → Type 0 where

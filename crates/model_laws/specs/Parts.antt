@@ -187,7 +187,7 @@ sum_bound (suc n) f h = omega (arith, h n, sum_bound n f h, suc_times n)
 pub rules→sound : (S : Specs) (Y : Systems) → SystemLimits Y → B4 Y ≡ true → B5 S Y ≡ true → Sound Y
 rules→sound S Y l b4 b5 = record {
   usable< = λ s c u. (l.component< s (usable_system _ s c u), l.usable< s c u);
-  sys-lim = l.component<;
+  sys_lim = l.component<;
   b4 = b4;
   mem_usable = λ s v c w e. (mem_usable S Y l b5 s v c w e).0;
 }

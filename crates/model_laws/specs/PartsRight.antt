@@ -20,9 +20,9 @@ use Rattle.model_laws.specs.Parts.{parts_ordered, parts_short, parts_whole, rows
 -- book has versions, and no chain in it is longer than the number of systems plus one." And document 01's order.
 pub record PartsRight (b : Book) (c v : ℕ) : Type 0 where
   pub exact : (d w : ℕ) → (listed (parts b c v) d w ≡ true) ↔ MadeFrom b.systems c v d w
-  pub each-once : distinct (parts b c v) ≡ true
-  pub after-members : after_members b.systems [] (parts b c v) ≡ true
-  pub lowest-first : LowestFirst b.systems c v [] (parts b c v)
+  pub each_once : distinct (parts b c v) ≡ true
+  pub after_members_lem : after_members b.systems [] (parts b c v) ≡ true
+  pub lowest_first : LowestFirst b.systems c v [] (parts b c v)
   pub rows : length (parts b c v) ≤ how_many_pairs b
   pub chains : (d w n : ℕ) → MadeFrom b.systems c v d w → Chain b.systems d w n → n ≤ how_many_systems b.systems + 1
 
@@ -54,9 +54,9 @@ module _ (b : Book) (g : Good b) (c v : ℕ) (has_it : has_version b.specs c v �
   unfolding parts how_many_pairs how_many_systems
   parts_right = record {
     exact = λ d w. (λ t. (part_means b g c v has_it d w).0 (parts_only b g c v has_it d w t), λ m. parts_whole b g c v has_it d w ((part_means b g c v has_it d w).1 m));
-    each-once = parts-once b g c v has_it;
-    after-members = parts_ordered b g c v has_it;
-    lowest-first = lowest 256 [];
+    each_once = parts-once b g c v has_it;
+    after_members_lem = parts_ordered b g c v has_it;
+    lowest_first = lowest 256 [];
     rows = parts_short b g c v has_it;
     chains = λ d w n m r. le_trans (chain_most b g r) (longest_chain_lem b.systems (good→sound b g) d w);
   }

@@ -54,11 +54,11 @@ abbrev pub without_valve : Book
 without_valve = after K tank_without_valve
 
 -- All other rules hold, and the printed formula in place of B9;
-pub formula-accepts :
+pub formula_accepts :
     (let S = without_valve.specs in let Y = without_valve.systems in
     B1 S & B2 S without_valve.modules Y & B3 S Y & B4 Y & B5 S Y & B6 S Y & B7 S Y & B8 S Y & each_composition Y (printed_at S Y)) ≡ true
 unfolding everything rs printed_at
-formula-accepts = refl
+formula_accepts = refl
 
 -- B9 does not, and so the command is refused.
 pub B9_refuses : B9 without_valve.specs without_valve.systems ≡ false
@@ -78,7 +78,7 @@ loop_not_usable = record {
   comp = λ v. only_if (v == va) (λ c. if c == loop then some vp else only_if (c == probe) one);
 }
 
-pub printed-needs-B5 :
+pub printed_needs_B5 :
     (let Y = put tank (some loop_not_usable) K.systems in B5_at K.specs Y tank va or printed_at K.specs Y tank va) ≡ false
 unfolding everything rs printed_at
-printed-needs-B5 = refl
+printed_needs_B5 = refl

@@ -38,15 +38,15 @@ empty_good = record {
     version< = λ s v t. clash t refl;
     member< = λ s v c w e. no_some e;
   };
-  b1 = record { apart = λ c v f t. clash t refl; std-in = λ c t. clash t refl; few = λ c. rw count_none zero-le };
+  b1 = record { apart = λ c v f t. clash t refl; std_in = λ c t. clash t refl; few = λ c. rw count_none zero-le };
   b2 = record {
-    mod-spec = λ c t. clash t refl;
-    mod-sys = λ c t. clash t refl;
-    mod-covers = λ c v t. clash t refl;
-    sys-spec = λ s t. clash t refl;
-    use-spec = λ s c t. clash t refl;
-    sys-covers = λ s v t. clash t refl;
-    sys-bare = λ s v f t. clash t refl;
+    mod_spec = λ c t. clash t refl;
+    mod_sys = λ c t. clash t refl;
+    mod_covers = λ c v t. clash t refl;
+    sys_spec = λ s t. clash t refl;
+    use_spec = λ s c t. clash t refl;
+    sys_covers = λ s v t. clash t refl;
+    sys_bare = λ s v f t. clash t refl;
   };
   b3 = system_in _ _ (λ s t. clash t refl);
   b4 = system_in _ _ (λ s t. clash t refl);

@@ -25,7 +25,7 @@ parts_answer s n c v room = if passes s n then first_no (parts_asked (plain_of s
 -- longest chain and at most the number of systems plus one"
 pub record Found (b : Book) (c v : ℕ) (old : List ℕ) (rows depth : ℕ) (out : List ℕ) : Type 0 where
   pub rows_are : rows ≡ length (parts b c v)
-  pub out-is : out ≡ filled (map row_number (parts b c v)) old
+  pub out_is : out ≡ filled (map row_number (parts b c v)) old
   pub at_least : longest_chain b.systems c v ≤ depth
   pub at_most : depth ≤ how_many_systems b.systems + 1
 
@@ -33,7 +33,7 @@ pub record Found (b : Book) (c v : ℕ) (old : List ℕ) (rows depth : ℕ) (out
 pub record Refused (n a rows depth : ℕ) : Type 0 where
   pub answer_is : a ≡ n
   pub no_rows : rows ≡ 0
-  pub no-depth : depth ≡ 0
+  pub no_depth : depth ≡ 0
 
 -- The call for the parts of c, v on the Book s n and the slice old answers a, and leaves out in the slice.
 pub record Listed (s n : List ℕ) (c v : ℕ) (old : List ℕ) (a rows depth : ℕ) (out : List ℕ) : Type 0 where

@@ -19,7 +19,7 @@ use Rattle.sets.specs.TestLaws.{<?_in, <?_out, and-false, and_in, and-true, fail
 use Rattle.sets.specs.Tests.{◌<?◌}
 use Rattle.model_laws.specs.Heights.{longest_chain_lem}
 use Rattle.model_laws.specs.Meaning.{first_no_lem, no_no}
-use Rattle.model_laws.specs.Notions.{no-here, none_left, yes_all, yes-here}
+use Rattle.model_laws.specs.Notions.{no_here, none_left, yes_all, yes_here}
 
 too_large : (l c : ℕ) → l ≤ c → (c <? l) ≡ false
 too_large l c h = fails _ (λ t. omega (arith, h, <?_out _ _ t))
@@ -29,28 +29,28 @@ too_large l c h = fails _ (λ t. omega (arith, h, <?_out _ _ t))
 module _ (b : Book) (c v room : ℕ) where
   pub no_1 : 32 ≤ c → first_no (parts_asked b c v room) ≡ 1
   unfolding parts_asked asked
-  no_1 h = first_no_lem (no-here (and-false _ _ (too_large _ _ h)))
+  no_1 h = first_no_lem (no_here (and-false _ _ (too_large _ _ h)))
 
   module _ (c< : c < 32) where
     pub no_1v : 64 ≤ v → first_no (parts_asked b c v room) ≡ 1
     unfolding parts_asked asked
-    no_1v h = first_no_lem (no-here (and-true _ _ (<?_in _ _ c<) ∙ too_large _ _ h))
+    no_1v h = first_no_lem (no_here (and-true _ _ (<?_in _ _ c<) ∙ too_large _ _ h))
 
     module _ (v< : v < 64) {x : Bool} (ex : x ≡ specified b.specs c) where
       pub no_4 : not x ≡ true → first_no (parts_asked b c v room) ≡ 4
       unfolding parts_asked asked
-      no_4 z = first_no_lem (yes-here (and_in _ _ (<?_in _ _ c<) (<?_in _ _ v<)) (no-here (sym ex ∙ not-true x z)))
+      no_4 z = first_no_lem (yes_here (and_in _ _ (<?_in _ _ c<) (<?_in _ _ v<)) (no_here (sym ex ∙ not-true x z)))
 
       module _ (yx : not x ≡ false) {y : Bool} (ey : y ≡ has_version b.specs c v) where
         pub no_10 : not y ≡ true → first_no (parts_asked b c v room) ≡ 10
         unfolding parts_asked asked
-        no_10 z = first_no_lem (yes-here (and_in _ _ (<?_in _ _ c<) (<?_in _ _ v<)) (yes-here (sym ex ∙ not-false x yx) (no-here (sym ey ∙ not-true y z))))
+        no_10 z = first_no_lem (yes_here (and_in _ _ (<?_in _ _ c<) (<?_in _ _ v<)) (yes_here (sym ex ∙ not-false x yx) (no_here (sym ey ∙ not-true y z))))
 
         module _ (yy : not y ≡ false) (k : ℕ) (a : List ℕ) (z : AllRows b c v k a) where
           pub no_22 : room < k → first_no (parts_asked b c v room) ≡ 22
           unfolding parts_asked asked
-          no_22 h = first_no_lem (yes-here (and_in _ _ (<?_in _ _ c<) (<?_in _ _ v<)) (yes-here (sym ex ∙ not-false x yx) (yes-here (sym ey ∙ not-false y yy)
-              (no-here (fails _ (λ t. omega (arith, h, z.count, ≤?_out _ _ t)))))))
+          no_22 h = first_no_lem (yes_here (and_in _ _ (<?_in _ _ c<) (<?_in _ _ v<)) (yes_here (sym ex ∙ not-false x yx) (yes_here (sym ey ∙ not-false y yy)
+              (no_here (fails _ (λ t. omega (arith, h, z.count, ≤?_out _ _ t)))))))
 
           pub no_none : k ≤ room → first_no (parts_asked b c v room) ≡ 0
           unfolding parts_asked asked
@@ -68,7 +68,7 @@ module _ (s n : List ℕ) (c v : ℕ) (old : List ℕ) (good : passes s n ≡ tr
       → Listed s n c v old a rows depth old
   refuse m e z = record {
     answer_is = z.answer_is ∙ sym (answer_is ∙ e);
-    refused = λ _. (refl, z.no_rows, z.no-depth);
+    refused = λ _. (refl, z.no_rows, z.no_depth);
     found = λ k. absurd (omega (arith, k, z.answer_is));
   }
 
@@ -80,7 +80,7 @@ module _ (s n : List ℕ) (c v : ℕ) (old : List ℕ) (good : passes s n ≡ tr
     refused = λ z. absurd (z refl);
     found = λ _. record {
       rows_are = z.count;
-      out-is = eo ∙ ap (λ (l : List ℕ). filled l old) (rows_are _ _ _ _ _ z);
+      out_is = eo ∙ ap (λ (l : List ℕ). filled l old) (rows_are _ _ _ _ _ z);
       at_least = omega (arith, ex, longest_chain_lem (systems_of s n) (passes_sound s n good) c v);
       at_most = omega (arith, ex);
     };
@@ -92,6 +92,6 @@ pub refuse_25 : (s n : List ℕ) (c v : ℕ) (old : List ℕ) {a rows depth : �
 unfolding parts_answer
 refuse_25 s n c v old e z = record {
   answer_is = z.answer_is ∙ sym (if-false _ _ _ e);
-  refused = λ _. (refl, z.no_rows, z.no-depth);
+  refused = λ _. (refl, z.no_rows, z.no_depth);
   found = λ k. absurd (omega (arith, k, z.answer_is));
 }

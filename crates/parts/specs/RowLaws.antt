@@ -47,8 +47,8 @@ ended b c v k t a z h e =
 pub rows_full : (b : Book) (c v k : ℕ) (t a : List ℕ) → RowsTo b c v k t a → k ≤ 256 → 256 ≤ k → AllRows b c v 256 a
 rows_full b c v k t a z h h' =
     let e : 256 - k ≡ 0 = omega arith in
-    let k-is : k ≡ 256 = omega arith in
-    subst (λ (n : ℕ). AllRows b c v n a) k-is
+    let k_is : k ≡ 256 = omega arith in
+    subst (λ (n : ℕ). AllRows b c v n a) k_is
     (ended b c v k t a z h (ap (λ (n : ℕ). rows_from n b c v z.back) e ∙ rows_from_zero b c v z.back))
 
 module _ (b : Book) (g : Good b) (c v : ℕ) (has_it : has_version b.specs c v ≡ true) (m : List ℕ) (pm : PartsIn b.systems c v m)

@@ -57,8 +57,8 @@ pair_said t at s a b l e c₀ k₀ v₀ n y k x v w f =
         is = ap (λ (z : Name). f z g.value.1) g.took.0.is ∙ ap (f (part t s a)) g.took.1.is;
         component = g.took.0.span;
         version = g.took.1.span;
-        component-fits = name_short t at s a a c₀ n y;
-        version-fits = name_short t b l e e v₀ v w;
+        component_fits = name_short t at s a a c₀ n y;
+        version_fits = name_short t b l e e v₀ v w;
       };
       from = g.from;
       inside = g.inside;

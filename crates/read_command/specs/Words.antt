@@ -17,5 +17,5 @@ pub record PairSaid (f : Name → Name → Said) (t : Text) (r : Parts) (x : Sai
   pub is : x ≡ f (part t r.start r.end) (part t r.from r.to)
   pub component : Span t r.start r.end
   pub version : Span t r.from r.to
-  pub component-fits : short (part t r.start r.end) ≡ true
-  pub version-fits : short (part t r.from r.to) ≡ true
+  pub component_fits : short (part t r.start r.end) ≡ true
+  pub version_fits : short (part t r.from r.to) ≡ true

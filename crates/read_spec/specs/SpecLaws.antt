@@ -245,4 +245,4 @@ module _ (t : Text) (at e : ℕ) (there : Bool) (W F W' F' : List ℕ) (room : B
       spec_body_is t at e z there m _ _ none_found none_twice_lem from_start q k r.there r.end (spec_state W' F' r) told w.end_is (w.rest W' F')
     where
       told : r.there ≡ (m & ((spec_state W' F' v).found & ~ (spec_state W' F' v).twice))
-      told = w.there-is ∙ (unfold spec_state in refl)
+      told = w.there_is ∙ (unfold spec_state in refl)

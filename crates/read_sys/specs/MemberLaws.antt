@@ -94,7 +94,7 @@ module _ (t : Text) (at a b : ℕ) (c₀ d₀ : Bool) (C C' W : List ℕ) (g : h
         version = none;
         taken = (refl, m.vers ∙ and_swap g.vers true ∙ and-true _ _ refl, refl);
         members = m.members ∙ ap (λ (o : Option ℕ). members_step (composition_view g.composition) (j, o)) said_left_out;
-        comps-fit = m.comps;
+        comps_fit_is = m.comps;
       }))
 
   pub member_taken : (e : ℕ) (v₀ : Bool) (W' : List ℕ) (l : ℕ) (placed' : Bool) → notᵇ d₀ ≡ false
@@ -111,7 +111,7 @@ module _ (t : Text) (at a b : ℕ) (c₀ d₀ : Bool) (C C' W : List ℕ) (g : h
         taken = (l, placed', h, m.vers, refl);
         members = m.members ∙ ap (λ (o : Option ℕ). members_step (composition_view g.composition) (j, o))
             (said_version l (enters_small versions _ _ l placed' u h (omega arith)));
-        comps-fit = m.comps;
+        comps_fit_is = m.comps;
       }))
 
 pub member_start_lem : (g : Composition) (a b : Bool) → composition_view g ≡ nothing → (c v : List ℕ) → member_state c v (record {
@@ -148,7 +148,7 @@ unfolding member_names
 member_comps s s' xs h e =
     subst (Grows components s.comps s'.comps s.comps_fit s'.comps_fit) (singles (λ (x : Name × Option Name). x.0) xs)
     (grows_each MemberStep components (λ s. s.comps) (λ s. s.comps_fit) (λ x. x.0 ∷ [])
-    (λ s s' x l f. grows_one components s.comps s'.comps f.number f.placed s.comps_fit s'.comps_fit x.0 l f.enters f.comps-fit)
+    (λ s s' x l f. grows_one components s.comps s'.comps f.number f.placed s.comps_fit s'.comps_fit x.0 l f.enters f.comps_fit_is)
     s s' xs h e)
 
 version_grow : (s s' : MemberState) (version : Option ℕ) (o : Option Name) → length s.vers ≤ versions → VersionTaken s s' version o
@@ -192,7 +192,7 @@ pub member_all : (s s' : MemberState) (xs : NamedMembers) → Each MemberStep s 
     → NumberedAll member_tables (λ s. s.comps_fit & s.vers_fit) (λ s. s.members) member_num members_step (λ y. true) s s' xs
 member_all s s' xs e y = numbered_all MemberStep member_tables (λ s. s.comps_fit & s.vers_fit) (λ s. s.members) member_num members_step (λ y. true)
     (λ s s' x f o.
-    (let c = sym f.comps-fit ∙ and_l _ _ o in let a = and_r s.comps_fit f.placed c in
+    (let c = sym f.comps_fit_is ∙ and_l _ _ o in let a = and_r s.comps_fit f.placed c in
     let v = version_number s s' f.version x.1 f.taken (and_r _ _ o) in
     record {
       before = and_in _ _ (and_l s.comps_fit f.placed c) v.0;

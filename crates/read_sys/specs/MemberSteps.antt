@@ -45,7 +45,7 @@ pub record MemberStep (s s' : MemberState) (x : Name × Option Name) : Type 0 wh
   pub version : Option ℕ
   pub taken : VersionTaken s s' version x.1
   pub members : s'.members ≡ members_step s.members (number, version)
-  pub comps-fit : s'.comps_fit ≡ (s.comps_fit & placed)
+  pub comps_fit_is : s'.comps_fit ≡ (s.comps_fit & placed)
 
 -- r is g with one member more
 pub record MemberWith (g : Members) (number : ℕ) (placed : Bool) (version : ℕ) (fit : Bool) (z : ℕ) (r : Members) : Type 0 where

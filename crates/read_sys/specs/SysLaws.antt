@@ -89,7 +89,7 @@ sys_version_taken t at a b e v₀ k₀ m₀ C C' W W₁ W' g j placed start m r 
       members = subst (λ (z : MemberState). Each MemberStep z (member_state C' W' m) ms) (s C W₁) l;
       comps = refl;
       vers = refl;
-      comps-fit = d.comps;
-      vers-fit = d.vers;
+      comps_fit_is = d.comps;
+      vers_fit_is = d.vers;
       compositions = d.compositions;
     }))

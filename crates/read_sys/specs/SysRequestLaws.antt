@@ -181,7 +181,7 @@ sys_comps : (s s' : SysState) (xs : List (Name × NamedMembers)) → length s.co
 sys_comps s s' xs h e =
     grows_each SysStep components (λ s. s.comps) (λ s. s.comps_fit) (λ x. member_names x.1) (λ s s' x l f.
     subst (λ (u : Table). Grows components s.comps u s.comps_fit s'.comps_fit (member_names x.1)) (sym f.comps)
-    (subst (λ (b : Bool). Grows components s.comps f.last.comps s.comps_fit b (member_names x.1)) (sym f.comps-fit)
+    (subst (λ (b : Bool). Grows components s.comps f.last.comps s.comps_fit b (member_names x.1)) (sym f.comps_fit_is)
     (started s x f l))) s s' xs h e
   where
     started : (s : SysState) (x : Name × NamedMembers) {s' : SysState} (f : SysStep s s' x) → length s.comps ≤ components
@@ -193,7 +193,7 @@ sys_vers : (s s' : SysState) (xs : List (Name × NamedMembers)) → length s.ver
 sys_vers s s' xs h e =
     grows_each SysStep versions (λ s. s.vers) (λ s. s.vers_fit) (λ x. x.0 ∷ member_versions x.1) (λ s s' x l f.
     subst (λ (u : Table). Grows versions s.vers u s.vers_fit s'.vers_fit (x.0 ∷ member_versions x.1)) (sym f.vers)
-    (subst (λ (b : Bool). Grows versions s.vers f.last.vers s.vers_fit b (x.0 ∷ member_versions x.1)) (sym f.vers-fit)
+    (subst (λ (b : Bool). Grows versions s.vers f.last.vers s.vers_fit b (x.0 ∷ member_versions x.1)) (sym f.vers_fit_is)
     (started s x f l))) s s' xs h e
   where
     started : (s : SysState) (x : Name × NamedMembers) {s' : SysState} (f : SysStep s s' x) → length s.vers ≤ versions
@@ -215,7 +215,7 @@ unfolding numbered_members members_of member_start
 sys_all s s' xs e y = numbered_all SysStep sys_tables (λ s. s.comps_fit & s.vers_fit) (λ s. s.compositions) sys_num compositions_step (λ y. true)
     (λ s s' x f o.
     (let all = member_all (member_start s.comps f.between s.comps_fit (s.vers_fit & f.placed)) f.last x.1 f.members
-    (and_in _ _ (sym f.comps-fit ∙ and_l _ _ o) (sym f.vers-fit ∙ and_r _ _ o)) in
+    (and_in _ _ (sym f.comps_fit_is ∙ and_l _ _ o) (sym f.vers_fit_is ∙ and_r _ _ o)) in
     let b = and_r s.vers_fit f.placed (and_r _ _ all.before) in
     let lc = subst (λ (u : Table). Longer s.comps u) (sym f.comps) all.later.comps in
     let lv = subst (λ (u : Table). Longer f.between u) (sym f.vers) all.later.vers in

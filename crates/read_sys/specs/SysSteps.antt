@@ -65,8 +65,8 @@ pub record SysStep (s s' : SysState) (x : Name × NamedMembers) : Type 0 where
   pub members : Each MemberStep (member_start s.comps between s.comps_fit (s.vers_fit & placed)) last x.1
   pub comps : s'.comps ≡ last.comps
   pub vers : s'.vers ≡ last.vers
-  pub comps-fit : s'.comps_fit ≡ last.comps_fit
-  pub vers-fit : s'.vers_fit ≡ last.vers_fit
+  pub comps_fit_is : s'.comps_fit ≡ last.comps_fit
+  pub vers_fit_is : s'.vers_fit ≡ last.vers_fit
   pub compositions : (ms : Members) → last.members ≡ members_of ms → s'.compositions ≡ compositions_step s.compositions (number, ms)
 
 -- r is g with one version more

@@ -85,6 +85,6 @@ pub record SpecBody (s s' : SpecState) (x : List (Bool × (Name × List Name)) �
 
 -- r is v, read up to "end"
 pub record SpecEnds (v : SpecVersions) (there : Bool) (z : ℕ) (r : SpecVersions) : Type 0 where
-  pub there-is : r.there ≡ (there & (v.found & ~ v.twice))
+  pub there_is : r.there ≡ (there & (v.found & ~ v.twice))
   pub end_is : r.end ≡ z
   pub rest : (w f : List ℕ) → spec_state w f r ≡ spec_state w f v

@@ -88,11 +88,11 @@ mod_version_taken t at a b e v₀ k₀ i₀ W W' I I' g j placed l placed' r n y
       placed = placed;
       enters = c;
       impl = l;
-      impl-placed = placed';
-      impl-enters = d;
+      impl_placed = placed';
+      impl_enters = d;
       numbers = m.numbers;
-      vers-fit = m.vers;
-      impls-fit = m.impls;
+      vers_fit_is = m.vers;
+      impls_fit_is = m.impls;
     }))
 
 pub mod_start_lem : (g : Numbers) → numbers_view g ≡ nothing → (v i : List ℕ) → mod_state v i (record {
@@ -178,7 +178,7 @@ mod_vers : (s s' : ModState) (xs : List (Name × Name)) → length s.vers ≤ ve
 mod_vers s s' xs h e =
     subst (Grows versions s.vers s'.vers s.vers_fit s'.vers_fit) (singles (λ (x : Name × Name). x.0) xs)
     (grows_each ModStep versions (λ s. s.vers) (λ s. s.vers_fit) (λ x. x.0 ∷ [])
-    (λ s s' x l f. grows_one versions s.vers s'.vers f.number f.placed s.vers_fit s'.vers_fit x.0 l f.enters f.vers-fit)
+    (λ s s' x l f. grows_one versions s.vers s'.vers f.number f.placed s.vers_fit s'.vers_fit x.0 l f.enters f.vers_fit_is)
     s s' xs h e)
 
 mod_impls : (s s' : ModState) (xs : List (Name × Name)) → length s.impls ≤ implementations → Each ModStep s s' xs
@@ -186,8 +186,8 @@ mod_impls : (s s' : ModState) (xs : List (Name × Name)) → length s.impls ≤ 
 mod_impls s s' xs h e =
     subst (Grows implementations s.impls s'.impls s.impls_fit s'.impls_fit) (singles (λ (x : Name × Name). x.1) xs)
     (grows_each ModStep implementations (λ s. s.impls) (λ s. s.impls_fit) (λ x. x.1 ∷ [])
-    (λ s s' x l f. grows_one implementations s.impls s'.impls f.impl f.impl-placed s.impls_fit s'.impls_fit x.1 l
-    f.impl-enters f.impls-fit) s s' xs h e)
+    (λ s s' x l f. grows_one implementations s.impls s'.impls f.impl f.impl_placed s.impls_fit s'.impls_fit x.1 l
+    f.impl_enters f.impls_fit_is) s s' xs h e)
 
 abbrev mod_tables : ModState → Tables
 mod_tables s = record { comps = []; vers = s.vers; facs = []; impls = s.impls }
@@ -198,21 +198,21 @@ mod_num u x = (number u.vers x.0, number u.impls x.1)
 mod_all : (s s' : ModState) (xs : List (Name × Name)) → Each ModStep s s' xs → (s'.vers_fit & s'.impls_fit) ≡ true
     → NumberedAll mod_tables (λ s. s.vers_fit & s.impls_fit) (λ s. s.numbers) mod_num numbers_step (λ y. true) s s' xs
 mod_all s s' xs e y = numbered_all ModStep mod_tables (λ s. s.vers_fit & s.impls_fit) (λ s. s.numbers) mod_num numbers_step (λ y. true) (λ s s' x f o.
-    (let v = sym f.vers-fit ∙ and_l _ _ o in let i = sym f.impls-fit ∙ and_r _ _ o in
-    let a = and_r s.vers_fit f.placed v in let b = and_r s.impls_fit f.impl-placed i in
+    (let v = sym f.vers_fit_is ∙ and_l _ _ o in let i = sym f.impls_fit_is ∙ and_r _ _ o in
+    let a = and_r s.vers_fit f.placed v in let b = and_r s.impls_fit f.impl_placed i in
     record {
-      before = and_in _ _ (and_l s.vers_fit f.placed v) (and_l s.impls_fit f.impl-placed i);
+      before = and_in _ _ (and_l s.vers_fit f.placed v) (and_l s.impls_fit f.impl_placed i);
       value = (f.number, f.impl);
       is = λ u l. ap₂ (λ (k j : ℕ). (k, j))
           (enters_number versions s.vers s'.vers f.number f.placed x.0 f.enters a u.vers l.vers)
-          (enters_number implementations s.impls s'.impls f.impl f.impl-placed x.1 f.impl-enters b u.impls l.impls);
+          (enters_number implementations s.impls s'.impls f.impl f.impl_placed x.1 f.impl_enters b u.impls l.impls);
       passes = refl;
       adds = f.numbers;
       later = record {
         comps = longer_none _;
         vers = enters_longer versions s.vers s'.vers f.number f.placed x.0 f.enters a;
         facs = longer_none _;
-        impls = enters_longer implementations s.impls s'.impls f.impl f.impl-placed x.1 f.impl-enters b;
+        impls = enters_longer implementations s.impls s'.impls f.impl f.impl_placed x.1 f.impl_enters b;
       };
     })) s s' xs e y
 

@@ -36,16 +36,16 @@ pub record ModStep (s s' : ModState) (x : Name × Name) : Type 0 where
   pub placed : Bool
   pub enters : Enters versions s.vers s'.vers number placed x.0
   pub impl : ℕ
-  pub impl-placed : Bool
-  pub impl-enters : Enters implementations s.impls s'.impls impl impl-placed x.1
+  pub impl_placed : Bool
+  pub impl_enters : Enters implementations s.impls s'.impls impl impl_placed x.1
   pub numbers : s'.numbers ≡ numbers_step s.numbers (number, impl)
-  pub vers-fit : s'.vers_fit ≡ (s.vers_fit & placed)
-  pub impls-fit : s'.impls_fit ≡ (s.impls_fit & impl-placed)
+  pub vers_fit_is : s'.vers_fit ≡ (s.vers_fit & placed)
+  pub impls_fit_is : s'.impls_fit ≡ (s.impls_fit & impl_placed)
 
 -- r is g with one version more
-pub record ModWith (g : ModVersions) (number : ℕ) (placed : Bool) (impl : ℕ) (impl-placed : Bool) (z : ℕ) (r : ModVersions) : Type 0 where
+pub record ModWith (g : ModVersions) (number : ℕ) (placed : Bool) (impl : ℕ) (impl_placed : Bool) (z : ℕ) (r : ModVersions) : Type 0 where
   pub there : r.there ≡ true
   pub end : r.end ≡ z
   pub numbers : numbers_view r.numbers ≡ numbers_step (numbers_view g.numbers) (number, impl)
   pub vers : r.vers ≡ (g.vers & placed)
-  pub impls : r.impls ≡ (g.impls & impl-placed)
+  pub impls : r.impls ≡ (g.impls & impl_placed)

@@ -21,6 +21,6 @@ pub record Adds (t t' : Tables) (room : Bool) (P : Command → Type 0) (x : Said
 -- no: 24." The decision d where one of the two has its no: `there` says that it is not the first. Then e is the command's end; else it
 -- was read from position `at` on.
 pub record Unasked (there : Bool) (at e : ℕ) (d : Decision) : Type 0 where
-  pub there-is : d.there ≡ there
+  pub there_is : d.there ≡ there
   pub end_is : d.end ≡ (if there then e else at)
   pub answer_is : d.answer ≡ (if there then 24 else 0)

@@ -29,11 +29,11 @@ use Rattle.session_add.specs.Adding.{Adds, Unasked}
 
 pub unasked_unread : (at e : ℕ) (there : Bool) → notᵇ there ≡ true → Unasked there at e (record { there = false; end = at; answer = 0 })
 unasked_unread at e there h =
-    let z = not-true there h in record { there-is = sym z; end_is = sym (if-false _ _ _ z); answer_is = sym (if-false _ _ _ z) }
+    let z = not-true there h in record { there_is = sym z; end_is = sym (if-false _ _ _ z); answer_is = sym (if-false _ _ _ z) }
 
 pub unasked_no_place : (at e : ℕ) (there : Bool) → notᵇ there ≡ false → Unasked there at e (record { there = true; end = e; answer = 24 })
 unasked_no_place at e there h =
-    let y = not-false there h in record { there-is = sym y; end_is = sym (if-true _ _ _ y); answer_is = sym (if-true _ _ _ y) }
+    let y = not-false there h in record { there_is = sym y; end_is = sym (if-true _ _ _ y); answer_is = sym (if-true _ _ _ y) }
 
 -- ---- a command that was asked its questions
 
@@ -97,17 +97,17 @@ module _ (s n c v f i : List ℕ) (before : Ready s n c v f i) (p : Reader Said)
       where
         none : Undecided at (state_of s n c v f i) (state_of s n c v f i) d
         none = record {
-          end = λ z. u.end_is ∙ if-false _ _ _ (sym u.there-is ∙ z);
-          answer = λ z. u.answer_is ∙ if-false _ _ _ (sym u.there-is ∙ z);
+          end = λ z. u.end_is ∙ if-false _ _ _ (sym u.there_is ∙ z);
+          answer = λ z. u.answer_is ∙ if-false _ _ _ (sym u.there_is ∙ z);
           state = λ z. refl;
         }
 
         by : (b : Bool) → there ≡ b → Answers p (Decides (state_of s n c v f i) (state_of s n c v f i) d.answer) t at d.there d.end
         by true y =
             subst (λ (m : ℕ). Answers p (Decides (state_of s n c v f i) (state_of s n c v f i) m) t at d.there d.end) (sym (u.answer_is ∙ if-true _ _ _ y))
-            (at_end (u.there-is ∙ y) (u.end_is ∙ if-true _ _ _ y)
+            (at_end (u.there_is ∙ y) (u.end_is ∙ if-true _ _ _ y)
             (answers_as p Q _ t at e there read y (λ x q. no_place s n c v f i c' v' f' i' room P x (adds x q) (second_no there room y h))))
-        by false z = record { yes = λ y. clash (sym u.there-is ∙ y) z; no = λ _. read.no z }
+        by false z = record { yes = λ y. clash (sym u.there_is ∙ y) z; no = λ _. read.no z }
 
     module _ (h : notᵇ (there && room) ≡ false) (a : ℕ) (s' n' : List ℕ) (called : (k : Command) → P k → Called s n k a s' n') where
       is_there_lem : there ≡ true

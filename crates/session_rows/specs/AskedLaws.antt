@@ -100,7 +100,7 @@ module _ (f : Name → Name → Said) (t : Text) (at : ℕ) (r : PairRead) (a : 
 
   module _ (w x : Text) (ew : w ≡ part t r.start r.end) (ex : x ≡ part t r.from r.to) where
     pub pair_short : (short w ≡ true) × (short x ≡ true)
-    pair_short = (ap short ew ∙ took.component-fits, ap short ex ∙ took.version-fits)
+    pair_short = (ap short ew ∙ took.component_fits, ap short ex ∙ took.version_fits)
 
     pub pair_answers : (R : Said → Type 0) → R (f w x) → Answers (of_pair f) R t at true r.to
     pair_answers R y = answers_as (of_pair f) (PairSaid f t r) R t at r.to r.there a (not-false r.there n) (λ z q. subst R (ap₂ f ew ex ∙ sym q.is) y)

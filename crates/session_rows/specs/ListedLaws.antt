@@ -20,7 +20,7 @@ use Rattle.model.specs.Queries.{CHOICE, PARTS, Reply, asked, choice, found, pair
 use Rattle.model.specs.Questions.{each_below, first_no}
 use Rattle.names.specs.Stored.{tables_of}
 use Rattle.parts.specs.Listed.{parts_answer, parts_asked, row_number}
-use Rattle.parts.specs.Listed as parts-call
+use Rattle.parts.specs.Listed as parts_call
 use Rattle.query_replies.specs.Found.{flat}
 use Rattle.query_replies.specs.Listed.{Listed, answer_of, fitted, row_of, rows_of}
 use Rattle.query_replies.specs.Replied.{numbers_in, replied_to}
@@ -165,9 +165,9 @@ listed_low [] h = refl
 listed_low (q ∷ xs) h =
     and_in _ _ (<?_in _ _ (h q.0 q.1 (or_l _ _ (and_in _ _ (==-same q.0) (==-same q.1))))) (listed_low xs (λ d w t. h d w (or_r _ _ t)))
 
-pub parts-room : (s n : List ℕ) (d u : ℕ) (old : List ℕ) (a k depth : ℕ) (new : List ℕ) → parts-call.Listed s n d u old a k depth new → k ≤ length new
+pub parts-room : (s n : List ℕ) (d u : ℕ) (old : List ℕ) (a k depth : ℕ) (new : List ℕ) → parts_call.Listed s n d u old a k depth new → k ≤ length new
 parts-room s n d u old a k depth new z = elim (same? a 0) [
-  | inl e ↦ filled_enough (map row_number (parts (plain_of s n) d u)) old new k ((z.found e).rows_are ∙ sym (length-map (parts (plain_of s n) d u) row_number)) (z.found e).out-is
+  | inl e ↦ filled_enough (map row_number (parts (plain_of s n) d u)) old new k ((z.found e).rows_are ∙ sym (length-map (parts (plain_of s n) d u) row_number)) (z.found e).out_is
   | inr ne ↦ (let e = (z.refused ne).1 in omega arith)
 ]
 
@@ -200,7 +200,7 @@ module _ (i : ℕ) (s n c v f m : List ℕ) (ready : Ready s n c v f m) (d u : �
       let g = passes→good (passes_plain s n ready.passes) in
       listed_low (parts book d u) (λ x w t. (pair_limits book g d u (has_it h) x w (part_has_version book g d u (has_it h) x w (parts_only book g d u (has_it h) x w t))).1)
 
-  pub parts_shown : (old new : List ℕ) (a k depth : ℕ) {p q : Room} {x y : List ℕ} → length old ≡ 256 → parts-call.Listed s n d u old a k depth new
+  pub parts_shown : (old new : List ℕ) (a k depth : ℕ) {p q : Room} {x y : List ℕ} → length old ≡ 256 → parts_call.Listed s n d u old a k depth new
       → Puts (answer_rows i a (pairs_in c v k new)) p q x y → Puts (lines i (session.asked (state_of s n c v f m) (PARTS d u))) p q x y
   parts_shown old new a k depth l z = puts_as (written ∙ ap (lines i) (sym (asked_is i s n c v f m ready (PARTS d u))))
     where
@@ -216,7 +216,7 @@ module _ (i : ℕ) (s n c v f m : List ℕ) (ready : Ready s n c v f m) (d u : �
           let same : map row_number (parts book d u) ≡ map row_of (parts book d u) = unfold row_number row_of in refl in
           ap (λ (b : ℕ). answer_rows i b (pairs_in c v k new)) e
           ∙ pairs_shown i c v f m (parts book d u) old new k (parts_low h) (list.rows_are ∙ sym (length-map (parts book d u) row_of))
-          (list.out-is ∙ ap (λ (ws : List ℕ). filled ws old) same)
+          (list.out_is ∙ ap (λ (ws : List ℕ). filled ws old) same)
           ∙ ap (lines i) (as_rows (to_found s n (PARTS d u) ready.passes h))
         where
           as_rows : replied_to s n (PARTS d u) ≡ found book (PARTS d u) → rows (map (pair_row (tables_of c v f m)) (parts book d u)) ≡ shown (tables_of c v f m) (replied_to s n (PARTS d u))

@@ -45,8 +45,8 @@ module _ {t : Text} {s : State} {q : Room} {old new : List ℕ} (r : Ran t s q o
   left_none h f e =
       let n : fits_in old t ≡ false = sym fit ∙ not-true _ h in
       record {
-        fits-is = sym n;
-        length-is = sym (if-false _ _ _ n);
+        fits_is = sym n;
+        length_is = sym (if-false _ _ _ n);
         slice = e ∙ ap (λ (k : ℕ). replicate k 0) r.puts.keeps ∙ sym (if-false _ _ _ n);
         state = f ∙ sym (if-false _ _ _ n);
       }
@@ -62,8 +62,8 @@ module _ {t : Text} {s : State} {q : Room} {old new : List ℕ} (r : Ran t s q o
       let n : length old - q.left ≡ length (session t).0 = omega arith in
       let w = r.puts.holds (not-false _ h) (le_refl _) in
       record {
-        fits-is = sym y;
-        length-is = n ∙ sym (if-true _ _ _ y);
+        fits_is = sym y;
+        length_is = n ∙ sym (if-true _ _ _ y);
         slice = w ∙ ap (λ (i : ℕ). filled (take i old ++ (session t).0) old) (sub_self (length old)) ∙ sym (if-true _ _ _ y);
         state = r.state ∙ sym (if-true _ _ _ y);
       }
@@ -73,7 +73,7 @@ module _ {t : Text} {s : State} {q : Room} {old new : List ℕ} (r : Ran t s q o
 module _ {t : Text} {old new : List ℕ} {fits : Bool} {n : ℕ} {s : State} (l : Leaves t old new fits n s) where
   pub answers_0 : fits ≡ true → 0 ≡ answer_of old t
   unfolding answer_of
-  answers_0 y = sym (if-true _ _ _ (sym l.fits-is ∙ y))
+  answers_0 y = sym (if-true _ _ _ (sym l.fits_is ∙ y))
 
   -- no byte behind the slice is touched, and none of it is lost
   pub leaves_keeps : length new ≡ length old
@@ -89,13 +89,13 @@ module _ {t : Text} {old new : List ℕ} {fits : Bool} {n : ℕ} {s : State} (l 
   pub leaves_short : not fits ≡ false → n ≤ length old
   unfolding length_of fits_in
   leaves_short h =
-      let y : fits_in old t ≡ true = sym l.fits-is ∙ not-false _ h in
-      let e : n ≡ length (session t).0 = l.length-is ∙ if-true _ _ _ y in
+      let y : fits_in old t ≡ true = sym l.fits_is ∙ not-false _ h in
+      let e : n ≡ length (session t).0 = l.length_is ∙ if-true _ _ _ y in
       let k = ≤?_out _ _ y in omega arith
 
   pub answers_22 : fits ≡ false → 22 ≡ answer_of old t
   unfolding answer_of
-  answers_22 z = sym (if-false _ _ _ (sym l.fits-is ∙ z))
+  answers_22 z = sym (if-false _ _ _ (sym l.fits_is ∙ z))
 
 -- all that it gives back
 pub called : {t : Text} {old new : List ℕ} {fits : Bool} {n a : ℕ} {c v f i ss ns : List ℕ}
@@ -107,7 +107,7 @@ pub called : {t : Text} {old new : List ℕ} {fits : Bool} {n a : ℕ} {c v f i 
       names = record { comps = c; vers = v; facs = f; impls = i };
     })
 unfolding state_in
-called l a r = record { answer = a; len = l.length-is; slice = l.slice; state = l.state; ready = r }
+called l a r = record { answer = a; len = l.length_is; slice = l.slice; state = l.state; ready = r }
 
 -- ---- the host's call
 
@@ -138,13 +138,13 @@ module _ (t : Text) (old : List ℕ) where
     pub too_long_lem : not fits ≡ true → (negsuc 21 ≡ host_result old t) × (new ≡ host_slice old t)
     unfolding slice_after
     too_long_lem z =
-        let e : fits_in old t ≡ false = sym l.fits-is ∙ not-true _ z in refused (short ∙ e) (l.slice ∙ if-false _ _ _ e)
+        let e : fits_in old t ≡ false = sym l.fits_is ∙ not-true _ z in refused (short ∙ e) (l.slice ∙ if-false _ _ _ e)
 
     pub listed : not fits ≡ false → (pos n ≡ host_result old t) × (new ≡ host_slice old t)
     unfolding host_result host_slice slice_after length_of
     listed z =
-        let e : fits_in old t ≡ true = sym l.fits-is ∙ not-false _ z in (
-          ap pos (l.length-is ∙ if-true _ _ _ e) ∙ sym (if-true _ _ _ (short ∙ e)),
+        let e : fits_in old t ≡ true = sym l.fits_is ∙ not-false _ z in (
+          ap pos (l.length_is ∙ if-true _ _ _ e) ∙ sym (if-true _ _ _ (short ∙ e)),
           l.slice ∙ if-true _ _ _ e ∙ sym (if-true _ _ _ (short ∙ e)),
         )
 

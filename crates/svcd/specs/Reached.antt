@@ -17,8 +17,8 @@ length_of slice t = if fits_in slice t then length (session t).0 else 0
 
 -- what is left of the session of the text t on the slice `old`: the slice `new` and the state s
 pub record Leaves (t : Text) (old new : List ℕ) (fits : Bool) (n : ℕ) (s : State) : Type 0 where
-  pub fits-is : fits ≡ fits_in old t
-  pub length-is : n ≡ length_of old t
+  pub fits_is : fits ≡ fits_in old t
+  pub length_is : n ≡ length_of old t
   pub slice : new ≡ slice_after old t
   pub state : s ≡ state_after old t
 

@@ -23,10 +23,10 @@ pub record Named (s : State) : Type 0 where
   pub required : (c v f : ℕ) → requires s.book.specs c v f ≡ true → valid_name (name_at s.tables.facs f) ≡ true
   pub implemented : (c v i : ℕ) → implementation s.book.modules c v ≡ some i
       → valid_implementation (name_at s.tables.impls i) ≡ true
-  pub comps-once : Once s.tables.comps
-  pub vers-once : Once s.tables.vers
-  pub facs-once : Once s.tables.facs
-  pub impls-once : Once s.tables.impls
+  pub comps_once : Once s.tables.comps
+  pub vers_once : Once s.tables.vers
+  pub facs_once : Once s.tables.facs
+  pub impls_once : Once s.tables.impls
 
 -- the answer to the question for 25 is yes, of a book with its tables
 pub record PassesNamed (s : State) : Type 0 where

@@ -73,19 +73,19 @@ module _ (st : State) (ok : NamedGood st) where
   standard' c e = standard_by (S (re.old_c c)) e
 
   member_spec : (s v c w : ℕ) → member Y s v c ≡ some w → specified S c ≡ true
-  member_spec s v c w e = g.b2.use-spec s c (mem_usable S Y g.system_limits g.b5 s v c w e).0
+  member_spec s v c w e = g.b2.use_spec s c (mem_usable S Y g.system_limits g.b5 s v c w e).0
 
   sys_of_lem : (s v : ℕ) → composed Y s v ≡ true → is_system Y s ≡ true
   sys_of_lem s v e = composed_system Y s v e
 
   impl_version : (c v i : ℕ) → implementation M c v ≡ some i → has_version S c v ≡ true
-  impl_version c v i e = sym (g.b2.mod-covers c v (implementation_module M c v i e)) ∙ is_some_in _ e
+  impl_version c v i e = sym (g.b2.mod_covers c v (implementation_module M c v i e)) ∙ is_some_in _ e
 
   same_facts : Same (record { book = rebuilt st ok; tables = reached_tables st ok }) st
   unfolding holds at
   same_facts (IsSpecified c) = at_kind st ok a_component c _ _ (specified' b re) (λ n e. e)
-  same_facts (IsModule c) = at_kind st ok a_component c _ _ (is_module' b re) (λ n e. g.b2.mod-spec n e)
-  same_facts (IsSystem c) = at_kind st ok a_component c _ _ (is_system' b re) (λ n e. g.b2.sys-spec n e)
+  same_facts (IsModule c) = at_kind st ok a_component c _ _ (is_module' b re) (λ n e. g.b2.mod_spec n e)
+  same_facts (IsSystem c) = at_kind st ok a_component c _ _ (is_system' b re) (λ n e. g.b2.sys_spec n e)
   same_facts (Provides c f) = at_kind st ok a_component c _ _
       (λ m. at_kind st ok a_facility f _ _ (provides' b re m) (λ n e. provided_by _ e))
       (λ n e. let q = at_out _ f _ e in provides_specified S n q.0 q.1)
@@ -94,15 +94,15 @@ module _ (st : State) (ok : NamedGood st) where
       (λ n e. let q = at_out _ v _ e in version_specified S n q.0 q.1)
   same_facts (Standard c v) = at_kind st ok a_component c _ _ (λ m. at_kind st ok a_version v _ _
       (λ k. ap (λ (x : Bool). x & k == standard (new_specs b re) m) (specified' b re m)
-      ∙ and_cong _ (λ e. ap (λ (x : ℕ). k == x) (standard' m e) ∙ eq_through re.of_v k _ (version_of _ (g.b1.std-in _ e))))
-      (λ n e. version_of (re.old_c m) (ap (has_version S (re.old_c m)) (==-out _ _ (and_r _ _ e)) ∙ g.b1.std-in _ (and_l _ _ e))))
+      ∙ and_cong _ (λ e. ap (λ (x : ℕ). k == x) (standard' m e) ∙ eq_through re.of_v k _ (version_of _ (g.b1.std_in _ e))))
+      (λ n e. version_of (re.old_c m) (ap (has_version S (re.old_c m)) (==-out _ _ (and_r _ _ e)) ∙ g.b1.std_in _ (and_l _ _ e))))
       (λ n e. let q = at_out _ v _ e in and_l _ _ q.1)
   same_facts (Usable c d) = at_kind st ok a_component c _ _
-      (λ m. at_kind st ok a_component d _ _ (usable' b re m) (λ n e. g.b2.use-spec _ n e))
-      (λ n e. let q = at_out _ d _ e in g.b2.sys-spec n (usable_system Y n q.0 q.1))
+      (λ m. at_kind st ok a_component d _ _ (usable' b re m) (λ n e. g.b2.use_spec _ n e))
+      (λ n e. let q = at_out _ d _ e in g.b2.sys_spec n (usable_system Y n q.0 q.1))
   same_facts (Composed c v) = at_kind st ok a_component c _ _
-      (λ m. at_kind st ok a_version v _ _ (composed' b re m) (λ n e. version_of _ (sym (g.b2.sys-covers _ n (sys_of_lem _ n e)) ∙ e)))
-      (λ n e. let q = at_out _ v _ e in g.b2.sys-spec n (sys_of_lem n q.0 q.1))
+      (λ m. at_kind st ok a_version v _ _ (composed' b re m) (λ n e. version_of _ (sym (g.b2.sys_covers _ n (sys_of_lem _ n e)) ∙ e)))
+      (λ n e. let q = at_out _ v _ e in g.b2.sys_spec n (sys_of_lem n q.0 q.1))
   same_facts (Requires c v f) = at_kind st ok a_component c _ _
       (λ m. at_kind st ok a_version v _ _ (λ k. at_kind st ok a_facility f _ _ (requires' b re m k) (λ n e. required_by _ _ e))
       (λ n e. let q = at_out _ f _ e in version_of _ (requires_version S _ n q.0 q.1)))
@@ -115,7 +115,7 @@ module _ (st : State) (ok : NamedGood st) where
       (λ n e. let q = has_out _ _ e in implementation_of _ _ (q.1 ∙ ap some (sym (==-out _ _ q.2)))))
       (λ n e. let q = at_out _ i _ e in let r = has_out _ _ q.1 in version_of _ (impl_version _ n r.0 r.1)))
       (λ n e. let q = at_out _ v _ e in let p = at_out _ i _ q.1 in let r = has_out _ _ p.1 in
-      g.b2.mod-spec n (implementation_module M n q.0 r.0 r.1))
+      g.b2.mod_spec n (implementation_module M n q.0 r.0 r.1))
   same_facts (Member c v d w) = at_kind st ok a_component c _ _
       (λ m. at_kind st ok a_version v _ _ (λ k. at_kind st ok a_component d _ _
       (λ j. at_kind st ok a_version w _ _ (λ x. ap (λ (o : Option ℕ). has o (λ z. x == z)) (member' b re m k j) ∙ has-map _ _ _
@@ -124,9 +124,9 @@ module _ (st : State) (ok : NamedGood st) where
       version_of _ (mem_usable S Y g.system_limits g.b5 _ _ _ n (q.1 ∙ ap some (sym (==-out _ _ q.2)))).1))
       (λ n e. let q = at_out _ w _ e in let r = has_out _ _ q.1 in member_spec _ _ n r.0 r.1))
       (λ n e. let p = at_out _ d _ e in let q = at_out _ w _ p.1 in let r = has_out _ _ q.1 in
-      let k = member_composed Y _ n p.0 r.0 r.1 in version_of _ (sym (g.b2.sys-covers _ n (sys_of_lem _ n k)) ∙ k)))
+      let k = member_composed Y _ n p.0 r.0 r.1 in version_of _ (sym (g.b2.sys_covers _ n (sys_of_lem _ n k)) ∙ k)))
       (λ n e. let o = at_out _ v _ e in let p = at_out _ d _ o.1 in let q = at_out _ w _ p.1 in
-      let r = has_out _ _ q.1 in g.b2.sys-spec n (sys_of_lem n o.0 (member_composed Y n o.0 p.0 r.0 r.1)))
+      let r = has_out _ _ q.1 in g.b2.sys_spec n (sys_of_lem n o.0 (member_composed Y n o.0 p.0 r.0 r.1)))
 
 -- "A book written as text and read into an empty session is the same book by names": and each command of the text is accepted.
 pub reads_back : (s : State) → PassesNamed s

@@ -116,7 +116,7 @@ module _ (s s' : State) (A : Alike s s') where
       → ((w : Name) → at s.tables.facs w test ≡ at s'.tables.facs w test')
       → facility_names s.tables test ≡ facility_names s'.tables test'
   unfolding facility_names
-  facs_same test test' u u' h = names_same _ _ p.named.facs-once p'.named.facs-once facilities test test' u u' h
+  facs_same test test' u u' h = names_same _ _ p.named.facs_once p'.named.facs_once facilities test test' u u' h
 
   spec_same : (c c' : ℕ) → SameC c c' → spec_of s.book s.tables c ≡ spec_of s'.book s'.tables c'
   unfolding spec_of
@@ -125,7 +125,7 @@ module _ (s s' : State) (A : Alike s s') where
       let e₂ = map_along {A = Name × List Name} W W' (λ v. (W v, facility_names s.tables (requires S c v)))
       (λ v. (W' v, facility_names s'.tables (requires S' c' v)))
       (by_name s.tables.vers versions (has_version S c)) (by_name s'.tables.vers versions (has_version S' c'))
-      (names_same _ _ p.named.vers-once p'.named.vers-once versions (has_version S c) (has_version S' c')
+      (names_same _ _ p.named.vers_once p'.named.vers_once versions (has_version S c) (has_version S' c')
       (use_v s p c) (use_v s' p' c') (version_same s s' A c c' k)) (λ v v' a a' w.
       let h = sym ((lv_lists s p c).each v) ∙ a in
       let h' = sym ((lv_lists s' p' c').each v') ∙ a' in
@@ -140,12 +140,12 @@ module _ (s s' : State) (A : Alike s s') where
   mod_same c c' k m m' =
       let T : ℕ → Bool = λ v. is_some (implementation M c v) in
       let T' : ℕ → Bool = λ v. is_some (implementation M' c' v) in
-      let cov : (v : ℕ) → T v ≡ has_version S c v = λ v. p.good.b2.mod-covers c v m in
-      let cov' : (v : ℕ) → T' v ≡ has_version S' c' v = λ v. p'.good.b2.mod-covers c' v m' in
+      let cov : (v : ℕ) → T v ≡ has_version S c v = λ v. p.good.b2.mod_covers c v m in
+      let cov' : (v : ℕ) → T' v ≡ has_version S' c' v = λ v. p'.good.b2.mod_covers c' v m' in
       let e₂ = map_along {A = Name × Name} W W' (λ v. (W v, name_at s.tables.impls (or_else (implementation M c v) 0)))
       (λ v. (W' v, name_at s'.tables.impls (or_else (implementation M' c' v) 0))) (by_name s.tables.vers versions T)
       (by_name s'.tables.vers versions T')
-      (names_same _ _ p.named.vers-once p'.named.vers-once versions T T' (λ v e. use_v s p c v (sym (cov v) ∙ e))
+      (names_same _ _ p.named.vers_once p'.named.vers_once versions T T' (λ v e. use_v s p c v (sym (cov v) ∙ e))
       (λ v e. use_v s' p' c' v (sym (cov' v) ∙ e)) (λ w. at_cong _ w T (has_version S c) cov ∙ version_same s s' A c c' k w
       ∙ sym (at_cong _ w T' (has_version S' c') cov'))) (λ v v' a a' w.
       let h = sym ((li_lists s p c).each v) ∙ a in
@@ -166,13 +166,13 @@ module _ (s s' : State) (A : Alike s s') where
       map_along {A = Name × Option Name} N N' (λ d. (N d, some (W (or_else (member Y c v d) 0))))
       (λ d. (N' d, some (W' (or_else (member Y' c' v' d) 0)))) (by_name s.tables.comps components (is_member Y c v))
       (by_name s'.tables.comps components (is_member Y' c' v'))
-      (names_same _ _ p.named.comps-once p'.named.comps-once components (is_member Y c v)
+      (names_same _ _ p.named.comps_once p'.named.comps_once components (is_member Y c v)
       (is_member Y' c' v') (λ d a. use_c s p d (there_in s p c v d a)) (λ d a. use_c s' p' d (there_in s' p' c' v' d a))
       (λ w. iff→≡ _ _ (is_member_fwd s s' A c c' k v v' h h' e w)
       (is_member_fwd s' s back c' c (same_back c c' k) v' v h' h (sym e) w))) (λ d d' a a' w.
       let x = held s c v d (sym ((lm_lists s p c v).each d) ∙ a) in
       let r = member_fwd s s' A c c' k v v' h h' e d x.0 x.1 in
-      let z : r.0 ≡ d' = p'.named.comps-once r.0 d'
+      let z : r.0 ≡ d' = p'.named.comps_once r.0 d'
       (use_c s' p' r.0 (member_of_lem s' p' c' v' r.0 r.1 r.2).0).1 (r.3 ∙ w) in
       let q : W (or_else (member Y c v d) 0) ≡ W' (or_else (member Y' c' v' d') 0) =
       ap W (or_at _ x.0 x.1) ∙ sym r.4 ∙ sym (ap W' (or_at _ r.1 (ap (member Y' c' v') (sym z) ∙ r.2))) in
@@ -190,13 +190,13 @@ module _ (s s' : State) (A : Alike s s') where
       → sys_of s.book s.tables c ≡ sys_of s'.book s'.tables c'
   unfolding sys_of
   sys_same c c' k y y' =
-      let e₁ = names_same _ _ p.named.comps-once p'.named.comps-once components (usable Y c) (usable Y' c')
-      (λ d a. use_c s p d (p.good.b2.use-spec c d a)) (λ d a. use_c s' p' d (p'.good.b2.use-spec c' d a))
+      let e₁ = names_same _ _ p.named.comps_once p'.named.comps_once components (usable Y c) (usable Y' c')
+      (λ d a. use_c s p d (p.good.b2.use_spec c d a)) (λ d a. use_c s' p' d (p'.good.b2.use_spec c' d a))
       (usable_same s s' A c c' k) in
       let e₂ = map_along {A = Name × NamedMembers} W W' (λ v. (W v, members_of s.book s.tables c v))
       (λ v. (W' v, members_of s'.book s'.tables c' v)) (by_name s.tables.vers versions (composed Y c))
       (by_name s'.tables.vers versions (composed Y' c'))
-      (names_same _ _ p.named.vers-once p'.named.vers-once versions (composed Y c) (composed Y' c')
+      (names_same _ _ p.named.vers_once p'.named.vers_once versions (composed Y c) (composed Y' c')
       (λ v a. use_v s p c v (sys_version_lem s p c v y a)) (λ v a. use_v s' p' c' v (sys_version_lem s' p' c' v y' a))
       (composed_same s s' A c c' k)) (λ v v' a a' w.
       let h = sys_version_lem s p c v y (sym ((lk_lists s p c).each v) ∙ a) in
@@ -208,7 +208,7 @@ module _ (s s' : State) (A : Alike s s') where
   -- ---- systems in order
 
   same_name : (c c' : ℕ) → is_system Y c ≡ true → is_system Y' c' ≡ true → N c ≡ N' c' → SameC c c'
-  same_name c c' y y' e = record { there = p.good.b2.sys-spec c y; there' = p'.good.b2.sys-spec c' y'; named = e }
+  same_name c c' y y' e = record { there = p.good.b2.sys_spec c y; there' = p'.good.b2.sys_spec c' y'; named = e }
 
   test_same : (out out' : List ℕ) → map N out ≡ map N' out' → (x x' : ℕ) → SameC x x'
       → (~ elem x out & ready Y out x) ≡ (~ elem x' out' & ready Y' out' x')
@@ -229,8 +229,8 @@ module _ (s s' : State) (A : Alike s s') where
   in_ls' x e = sym ((ys_lists s' p').each x) ∙ e
 
   names_ls : map N ls ≡ map N' ls'
-  names_ls = names_same _ _ p.named.comps-once p'.named.comps-once components _ _
-      (λ n a. use_c s p n (p.good.b2.sys-spec n a)) (λ n a. use_c s' p' n (p'.good.b2.sys-spec n a)) (λ w. system_fact w)
+  names_ls = names_same _ _ p.named.comps_once p'.named.comps_once components _ _
+      (λ n a. use_c s p n (p.good.b2.sys_spec n a)) (λ n a. use_c s' p' n (p'.good.b2.sys_spec n a)) (λ w. system_fact w)
     where
       system_fact : (w : Name) → at s.tables.comps w (is_system Y) ≡ at s'.tables.comps w (is_system Y')
       system_fact w = unfold holds in A.says (IsSystem w)
@@ -263,7 +263,7 @@ module _ (s s' : State) (A : Alike s s') where
   commands_same =
       let e₁ = map_along N N' (spec_of s.book s.tables) (spec_of s'.book s'.tables)
       (by_name s.tables.comps components (specified S)) (by_name s'.tables.comps components (specified S'))
-      (names_same _ _ p.named.comps-once p'.named.comps-once components _ _ (use_c s p) (use_c s' p') specified_fact)
+      (names_same _ _ p.named.comps_once p'.named.comps_once components _ _ (use_c s p) (use_c s' p') specified_fact)
       (λ c c' a a' w. spec_same c c'
       (record {
         there = sym ((cs_lists s p).each c) ∙ a;
@@ -272,11 +272,11 @@ module _ (s s' : State) (A : Alike s s') where
       })) in
       let e₂ = map_along N N' (mod_of s.book s.tables) (mod_of s'.book s'.tables)
       (by_name s.tables.comps components (is_module M)) (by_name s'.tables.comps components (is_module M'))
-      (names_same _ _ p.named.comps-once p'.named.comps-once components _ _
-      (λ n a. use_c s p n (p.good.b2.mod-spec n a)) (λ n a. use_c s' p' n (p'.good.b2.mod-spec n a)) module_fact)
+      (names_same _ _ p.named.comps_once p'.named.comps_once components _ _
+      (λ n a. use_c s p n (p.good.b2.mod_spec n a)) (λ n a. use_c s' p' n (p'.good.b2.mod_spec n a)) module_fact)
       (λ c c' a a' w. let m = sym ((ms_lists s p).each c) ∙ a in
       let m' = sym ((ms_lists s' p').each c') ∙ a' in
-      mod_same c c' (record { there = p.good.b2.mod-spec c m; there' = p'.good.b2.mod-spec c' m'; named = w }) m m') in
+      mod_same c c' (record { there = p.good.b2.mod_spec c m; there' = p'.good.b2.mod_spec c' m'; named = w }) m m') in
       let e₃ = map_along N N' (sys_of s.book s.tables) (sys_of s'.book s'.tables)
       (systems_from components Y ls []) (systems_from components Y' ls' []) (order_same components [] [] refl)
       (λ c c' a a' w. let y = systems_are s.book p.good ls (ys_lists s p) components [] c a in

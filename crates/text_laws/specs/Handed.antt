@@ -27,11 +27,11 @@ names_hold_lem s g h = record {
   required = λ c v f e. imp_out _ _ (all_out _ _ (and_l _ _ (and_r _ _ (ver c v (requires_version _ c v f e)))) f
       (g.spec_limits.required< c v f e)) e;
   implemented = λ c v i e. if_there_out _ _
-      (and_r _ _ (and_r _ _ (ver c v (sym (g.b2.mod-covers c v (implementation_module _ c v i e)) ∙ is_some_in _ e)))) i e;
-  comps-once = none_twice_lem _ (and_l _ _ (and_r _ _ h));
-  vers-once = none_twice_lem _ (and_l _ _ (and_r _ _ (and_r _ _ h)));
-  facs-once = none_twice_lem _ (and_l _ _ (and_r _ _ (and_r _ _ (and_r _ _ h))));
-  impls-once = none_twice_lem _ (and_r _ _ (and_r _ _ (and_r _ _ (and_r _ _ h))));
+      (and_r _ _ (and_r _ _ (ver c v (sym (g.b2.mod_covers c v (implementation_module _ c v i e)) ∙ is_some_in _ e)))) i e;
+  comps_once = none_twice_lem _ (and_l _ _ (and_r _ _ h));
+  vers_once = none_twice_lem _ (and_l _ _ (and_r _ _ (and_r _ _ h)));
+  facs_once = none_twice_lem _ (and_l _ _ (and_r _ _ (and_r _ _ (and_r _ _ h))));
+  impls_once = none_twice_lem _ (and_r _ _ (and_r _ _ (and_r _ _ (and_r _ _ h))));
 }
   where
     at : (c : ℕ) → specified s.book.specs c ≡ true → component_named s c ≡ true
@@ -69,8 +69,8 @@ hold_names s n =
     (all_in _ _ (λ v k. imp_in _ _ (λ h. and_in _ _ (n.version c v h)
     (and_in _ _ (all_in _ _ (λ f j. imp_in _ _ (n.required c v f)))
     (if_there_in _ _ (λ i j. n.implemented c v i j))))))))))
-    (and_in _ _ (once_twice _ n.comps-once) (and_in _ _ (once_twice _ n.vers-once)
-    (and_in _ _ (once_twice _ n.facs-once) (once_twice _ n.impls-once))))
+    (and_in _ _ (once_twice _ n.comps_once) (and_in _ _ (once_twice _ n.vers_once)
+    (and_in _ _ (once_twice _ n.facs_once) (once_twice _ n.impls_once))))
 
 -- ---- what demand 2 speaks of is there
 

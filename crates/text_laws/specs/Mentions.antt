@@ -212,9 +212,9 @@ module _ (st : State) (ok : NamedGood st) where
         let l = by_name t.vers versions (λ v. is_some (implementation M c v)) in
         let at : ℕ → Name = λ v. name_at t.impls (or_else (implementation M c v) 0) in
         by_kind _
-        (every_cons tc _ _ (h.component c (g.b2.mod-spec c e)) (every-none tc))
+        (every_cons tc _ _ (h.component c (g.b2.mod_spec c e)) (every-none tc))
         (every-firsts tv (name_at t.vers) at l
-        (λ v k. h.version c v (sym (g.b2.mod-covers c v e) ∙ sym ((li_lists c).each v) ∙ k)))
+        (λ v k. h.version c v (sym (g.b2.mod_covers c v e) ∙ sym ((li_lists c).each v) ∙ k)))
         (every-none tf)
         (every-seconds ti (name_at t.vers) at l (λ v k. let q = is_some_out _ (sym ((li_lists c).each v) ∙ k) in
         ap (λ (o : Option ℕ). ti (name_at t.impls (or_else o 0))) q.1 ∙ h.implemented c v q.0 q.1))
@@ -239,16 +239,16 @@ module _ (st : State) (ok : NamedGood st) where
         let at : ℕ → Name × NamedMembers = λ v. (name_at t.vers v, members_of b t s v) in
         let l = by_name t.vers versions (composed Y s) in
         by_kind _
-        (every_cons tc _ _ (h.component s (g.b2.sys-spec s e))
+        (every_cons tc _ _ (h.component s (g.b2.sys_spec s e))
         (every_append tc (map (name_at t.comps) (by_name t.comps components (usable Y s))) _
         (every_of tc (name_at t.comps) (by_name t.comps components (usable Y s))
-        (λ c k. h.component c (g.b2.use-spec s c (sym ((lu_lists s).each c) ∙ k))))
+        (λ c k. h.component c (g.b2.use_spec s c (sym ((lu_lists s).each c) ∙ k))))
         (every_lists tc (λ x. member_names x.1) at l (λ v j. ap (every tc) (member_names_lem s v)
         ∙ every_of tc (name_at t.comps) (by_name t.comps components (is_member Y s v))
         (λ c k. let q = at_member s v c k in
-        h.component c (g.b2.use-spec s c (mem_usable S Y g.system_limits g.b5 s v c q.0 q.1).0))))))
+        h.component c (g.b2.use_spec s c (mem_usable S Y g.system_limits g.b5 s v c q.0 q.1).0))))))
         (every_lists tv (λ x. x.0 ∷ member_versions x.1) at l
-        (λ v j. every_cons tv _ _ (h.version s v (sym (g.b2.sys-covers s v e) ∙ sym ((lk_lists s).each v) ∙ j))
+        (λ v j. every_cons tv _ _ (h.version s v (sym (g.b2.sys_covers s v e) ∙ sym ((lk_lists s).each v) ∙ j))
         (ap (every tv) (member_versions_lem s v)
         ∙ every_of tv (λ c. name_at t.vers (or_else (member Y s v c) 0)) (by_name t.comps components (is_member Y s v))
         (λ c k. let q = at_member s v c k in ap (λ (o : Option ℕ). tv (name_at t.vers (or_else o 0))) q.1

@@ -29,8 +29,8 @@ use Rattle.model_laws.specs.Notions.{none_left, yes_all}
 pub record ModLists (M : Modules) (c : ℕ) : Type 0 where
   pub vers : List ℕ
   pub impl : ℕ → ℕ
-  pub vers-all : Lists vers (λ v. is_some (implementation M c v))
-  pub impl-is : (v i : ℕ) → implementation M c v ≡ some i → impl v ≡ i
+  pub vers_all : Lists vers (λ v. is_some (implementation M c v))
+  pub impl_is : (v i : ℕ) → implementation M c v ≡ some i → impl v ≡ i
 
 pub is_undefined_lem : (M : Modules) (Y : Systems) (c : ℕ) → is_module M c ≡ false → is_system Y c ≡ false → (~ is_defined M Y c) ≡ true
 unfolding is_defined
@@ -84,16 +84,16 @@ module _ (b : Book) (g : Good b) (re : Renumbering b.specs b.modules) where
     im = ls.impl
 
     kv : Lists lv (λ v. is_some (implementation M c v))
-    kv = ls.vers-all
+    kv = ls.vers_all
 
     ki : (v i : ℕ) → implementation M c v ≡ some i → im v ≡ i
-    ki = ls.impl-is
+    ki = ls.impl_is
 
     mod_spec : specified S c ≡ true
-    mod_spec = g.b2.mod-spec c there
+    mod_spec = g.b2.mod_spec c there
 
     mod_v : (v : ℕ) → is_some (implementation M c v) ≡ true → UsedV S v
-    mod_v v e = version_of c (sym (g.b2.mod-covers c v there) ∙ e)
+    mod_v v e = version_of c (sym (g.b2.mod_covers c v there) ∙ e)
 
     mod_i : (v : ℕ) → is_some (implementation M c v) ≡ true → UsedI M (im v)
     mod_i v e = let q = is_some_out _ e in implementation_of c v (q.1 ∙ ap some (sym (ki v q.0 q.1)))
@@ -108,13 +108,13 @@ module _ (b : Book) (g : Good b) (re : Renumbering b.specs b.modules) where
         (ap (every (λ x. x <? versions)) (firsts-map new_v _ lv) ∙ new_small re.of_v lv kv mod_v)
         (ap (every (λ x. x <? implementations)) (seconds-map new_v _ lv)
         ∙ every_of _ (λ v. new_i (im v)) lv (λ v e. <?_in _ _ (re.of_i.small (im v) (mod_i v (sym (kv.each v) ∙ e)))))))
-        (yes_all (non_empty-map _ lv (lists_non_empty lv _ kv (standard S c) (g.b2.mod-covers c (standard S c) there
-        ∙ g.b1.std-in c mod_spec)))
+        (yes_all (non_empty-map _ lv (lists_non_empty lv _ kv (standard S c) (g.b2.mod_covers c (standard S c) there
+        ∙ g.b1.std_in c mod_spec)))
         (yes_all (ap once (firsts-map new_v _ lv) ∙ new_once re.of_v lv kv mod_v)
         (yes_all (specified' b re (new_c c) ∙ ap (specified S) back_c ∙ mod_spec)
         (yes_all (is_undefined_lem (only l M') (λ c. none) (new_c c) (ap is_some (only_out l M' (new_c c) fresh)) refl)
         (yes_all (all_in _ _ (λ v k. iff_in _ _ (ap (elem v) (firsts-map new_v _ lv)
-        ∙ new_each re.of_v lv kv mod_v v ∙ g.b2.mod-covers c (old_v v) there
+        ∙ new_each re.of_v lv kv mod_v v ∙ g.b2.mod_covers c (old_v v) there
         ∙ ap (λ (z : ℕ). has_version S z (old_v v)) (sym back_c) ∙ sym (has_version' b re (new_c c) v))))
         none_left))))))
 

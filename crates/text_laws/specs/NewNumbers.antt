@@ -55,15 +55,15 @@ module _ (st : State) (ok : NamedGood st) where
   known_names : EachName st ok (λ k. known (table k t) (limit k))
   unfolding known
   known_names = record {
-    component = λ c e. has_in _ _ c (place_of _ nm.comps-once c (valid-some _ (nm.component c e)))
+    component = λ c e. has_in _ _ c (place_of _ nm.comps_once c (valid-some _ (nm.component c e)))
         (<?_in _ _ (g.spec_limits.component< c e));
-    version = λ c v e. has_in _ _ v (place_of _ nm.vers-once v (valid-some _ (nm.version c v e)))
+    version = λ c v e. has_in _ _ v (place_of _ nm.vers_once v (valid-some _ (nm.version c v e)))
         (<?_in _ _ (g.spec_limits.version< c v e));
-    provided = λ c f e. has_in _ _ f (place_of _ nm.facs-once f (valid-some _ (nm.provided c f e)))
+    provided = λ c f e. has_in _ _ f (place_of _ nm.facs_once f (valid-some _ (nm.provided c f e)))
         (<?_in _ _ (g.spec_limits.provided< c f e));
-    required = λ c v f e. has_in _ _ f (place_of _ nm.facs-once f (valid-some _ (nm.required c v f e)))
+    required = λ c v f e. has_in _ _ f (place_of _ nm.facs_once f (valid-some _ (nm.required c v f e)))
         (<?_in _ _ (g.spec_limits.required< c v f e));
-    implemented = λ c v i e. has_in _ _ i (place_of _ nm.impls-once i (impl_some _ (nm.implemented c v i e)))
+    implemented = λ c v i e. has_in _ _ i (place_of _ nm.impls_once i (impl_some _ (nm.implemented c v i e)))
         (<?_in _ _ (g.module_limits.implementation< c v i e).1);
   }
 
@@ -174,10 +174,10 @@ module _ (st : State) (ok : NamedGood st) where
   Used an_implementation = UsedI M
 
   once_at : (k : Kind) → Once (table k t)
-  once_at a_component = nm.comps-once
-  once_at a_version = nm.vers-once
-  once_at a_facility = nm.facs-once
-  once_at an_implementation = nm.impls-once
+  once_at a_component = nm.comps_once
+  once_at a_version = nm.vers_once
+  once_at a_facility = nm.facs_once
+  once_at an_implementation = nm.impls_once
 
   used_at : (k : Kind) (n : ℕ) → Used k n → InBoth (table k t) (table k reached_tables) (limit k) n
   used_at a_component c e = record {

@@ -175,7 +175,7 @@ module _ (b : Book) (g : Good b) (ss : List ℕ) (ks : Lists ss (is_system b.sys
       shut : (s c : ℕ) → elem s out ≡ true → usable Y s c ≡ true → is_system Y c ≡ true → elem c out ≡ true
 
     spec : (s : ℕ) → is_system Y s ≡ true → specified b.specs s ≡ true
-    spec s k = g.b2.sys-spec s k
+    spec s k = g.b2.sys_spec s k
 
     out_closed : (out : List ℕ) → Out out → Closed (map new_c out)
     out_closed out o s c e u k =

@@ -163,7 +163,7 @@ module _ {A : Type 0} (k : Token) (p : Reader A) (P : A → Text) (sep : Text) (
   pub record ListLaw : Type 0 where
     pub one : (x : A) (t : Text) → ok x ≡ true → Stop t → p (32 ∷ (P x ++ t)) ≡ some (x, t)
     pub on : (t : Text) → ahead k (sep ++ t) ≡ some (true, 32 ∷ t)
-    pub sep-stops : (t : Text) → Stop (sep ++ t)
+    pub sep_stops : (t : Text) → Stop (sep ++ t)
     pub wide : 1 ≤ length sep
 
   module _ (law : ListLaw) (tail : Text) (stop : Stop tail) (no_more : ahead k tail ≡ some (false, tail)) where
@@ -178,7 +178,7 @@ module _ {A : Type 0} (k : Token) (p : Reader A) (P : A → Text) (sep : Text) (
         let more = parted sep (map P (y ∷ ys)) in
         ap (λ (t : Text). list_in (suc n) k p (32 ∷ t)) (append_assoc (P x) (sep ++ more) tail
         ∙ ap (λ (t : Text). P x ++ t) (append_assoc sep more tail))
-        ∙ bind p _ _ (law.one x (sep ++ (more ++ tail)) (and_l _ _ o) (law.sep-stops (more ++ tail)))
+        ∙ bind p _ _ (law.one x (sep ++ (more ++ tail)) (and_l _ _ o) (law.sep_stops (more ++ tail)))
         ∙ bind (ahead k) _ _ (law.on (more ++ tail))
         ∙ bind _ _ _ (list_in_lem (y ∷ ys) (unfold non_empty in refl) (and_r _ _ o) n (omega arith))
 

@@ -73,7 +73,7 @@ version_law : ListLaw semicolon spec_version flagged_piece (bytes "; ") ok_flagg
 version_law = record {
   one = λ y t o h. version_read y.0 y.1.0 y.1.1 t o h;
   on = λ t. unfold lexing in refl;
-  sep-stops = λ t. semi t;
+  sep_stops = λ t. semi t;
   wide = unfold lexing in omega arith;
 }
 
@@ -149,7 +149,7 @@ mod_law : ListLaw semicolon mod_version mod_piece (bytes "; ") ok_mod Tail
 mod_law = record {
   one = λ x t o h. mod_read x t o;
   on = λ t. unfold lexing in refl;
-  sep-stops = λ t. semi t;
+  sep_stops = λ t. semi t;
   wide = unfold lexing in omega arith;
 }
 
@@ -191,7 +191,7 @@ member_law : ListLaw comma compo member_piece (bytes ", ") ok_member (λ t. stop
 member_law = record {
   one = λ x t o h. member_read x.0 x.1 t o h;
   on = λ t. unfold lexing in refl;
-  sep-stops = λ t. unfold lexing in refl;
+  sep_stops = λ t. unfold lexing in refl;
   wide = unfold lexing in omega arith;
 }
 
@@ -210,7 +210,7 @@ sys_law : ListLaw semicolon sys_version sys_piece (bytes "; ") ok_sys Tail
 sys_law = record {
   one = sys_version_read;
   on = λ t. unfold lexing in refl;
-  sep-stops = λ t. semi t;
+  sep_stops = λ t. semi t;
   wide = unfold lexing in omega arith;
 }
 

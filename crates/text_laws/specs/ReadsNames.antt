@@ -86,7 +86,7 @@ stop_equals t = refl
 
 name_law : ListLaw comma name (λ w. w) (bytes ", ") valid_name (λ t. stops name_byte t ≡ true)
 unfolding lexing
-name_law = record { one = λ x t v h. name_spaced x t v h; on = λ t. refl; sep-stops = λ t. refl; wide = omega arith }
+name_law = record { one = λ x t v h. name_spaced x t v h; on = λ t. refl; sep_stops = λ t. refl; wide = omega arith }
 
 pub names_read : (xs : List Name) (t : Text) → non_empty xs ≡ true → every valid_name xs ≡ true → stops name_byte t ≡ true
     → ahead comma t ≡ some (false, t) → names (32 ∷ (commas xs ++ t)) ≡ some (xs, t)

@@ -110,13 +110,13 @@ module _ (st : State) (ok : NamedGood st) where
     facs = lp c;
     vers = lv c;
     reqs = lq c;
-    facs-all = lp_lists st ok c;
-    vers-all = lv_lists st ok c;
-    reqs-all = lq_lists st ok c;
+    facs_all = lp_lists st ok c;
+    vers_all = lv_lists st ok c;
+    reqs_all = lq_lists st ok c;
   }
 
   abbrev mod_lists : (c : ℕ) → ModLists M c
-  mod_lists c = record { vers = li c; impl = im c; vers-all = li_lists st ok c; impl-is = λ v i e. or_at _ i e }
+  mod_lists c = record { vers = li c; impl = im c; vers_all = li_lists st ok c; impl_is = λ v i e. or_at _ i e }
 
   abbrev sys_lists : (s : ℕ) → SysLists Y s
   sys_lists s = record {
@@ -124,9 +124,9 @@ module _ (st : State) (ok : NamedGood st) where
     vers = lk s;
     mems = lm s;
     held = mv s;
-    uses-all = lu_lists st ok s;
-    vers-all = lk_lists st ok s;
-    mems-all = lm_lists st ok s;
+    uses_all = lu_lists st ok s;
+    vers_all = lk_lists st ok s;
+    mems_all = lm_lists st ok s;
     held_is = λ v c w e. or_at _ w e;
   }
 
@@ -138,10 +138,10 @@ module _ (st : State) (ok : NamedGood st) where
       (every_of valid_name (name_at t.facs) (lp c) (λ f k. nm.provided c f (sym ((lp_lists st ok c).each f) ∙ k)))
       (every_of ok_version _ (lv c) (λ v k. and_in _ _ (nm.version c v (sym ((lv_lists st ok c).each v) ∙ k))
       (every_of valid_name (name_at t.facs) (lq c v) (λ f j. nm.required c v f (sym ((lq_lists st ok c v).each f) ∙ j)))))
-      (non_empty-map _ (lv c) (lists_non_empty (lv c) _ (lv_lists st ok c) _ (g.b1.std-in c e)))
+      (non_empty-map _ (lv c) (lists_non_empty (lv c) _ (lv_lists st ok c) _ (g.b1.std_in c e)))
       (one_mark (name_at t.vers) _ (standard S c) (lv c) (lv_lists st ok c).once ((lv_lists st ok c).each (standard S c)
-      ∙ g.b1.std-in c e)
-      (λ n k z. nm.vers-once n (standard S c) (valid-some _ (nm.version c n (sym ((lv_lists st ok c).each n) ∙ k)))
+      ∙ g.b1.std_in c e)
+      (λ n k z. nm.vers_once n (standard S c) (valid-some _ (nm.version c n (sym ((lv_lists st ok c).each n) ∙ k)))
       (same_out _ _ z)))
 
   abbrev specs_in : List ℕ → Book
@@ -191,13 +191,13 @@ module _ (st : State) (ok : NamedGood st) where
 
   mod_writable : (c : ℕ) → is_module M c ≡ true → Writable (mod_of b t c)
   unfolding mod_of ok_mod
-  mod_writable c e = a_mod (nm.component c (g.b2.mod-spec c e)) (every_of ok_mod _ (li c) (λ v k.
+  mod_writable c e = a_mod (nm.component c (g.b2.mod_spec c e)) (every_of ok_mod _ (li c) (λ v k.
       let j = sym ((li_lists st ok c).each v) ∙ k in let q = is_some_out _ j in
-      and_in _ _ (nm.version c v (sym (g.b2.mod-covers c v e) ∙ j))
+      and_in _ _ (nm.version c v (sym (g.b2.mod_covers c v e) ∙ j))
       (ap (λ (n : ℕ). valid_implementation (name_at t.impls n)) (or_at _ q.0 q.1)
       ∙ nm.implemented c v q.0 q.1)))
-      (non_empty-map _ (li c) (lists_non_empty (li c) _ (li_lists st ok c) (standard S c) (g.b2.mod-covers c (standard S c) e
-      ∙ g.b1.std-in c (g.b2.mod-spec c e))))
+      (non_empty-map _ (li c) (lists_non_empty (li c) _ (li_lists st ok c) (standard S c) (g.b2.mod_covers c (standard S c) e
+      ∙ g.b1.std_in c (g.b2.mod_spec c e))))
 
   numbered_mod : Name × Name → ℕ × ℕ
   numbered_mod x = (number reached.vers x.0, number reached.impls x.1)
@@ -233,25 +233,25 @@ module _ (st : State) (ok : NamedGood st) where
   unfolding is_member
   a_usable s e =
       let v = standard S s in
-      let k = a_member s v (g.b2.sys-covers s v e ∙ g.b1.std-in s (g.b2.sys-spec s e)) in
+      let k = a_member s v (g.b2.sys_covers s v e ∙ g.b1.std_in s (g.b2.sys_spec s e)) in
       let q = is_some_out (member Y s v k.0) k.1 in
       (k.0, (mem_usable S Y g.system_limits g.b5 s v k.0 q.0 q.1).0)
 
   sys_writable : (s : ℕ) → is_system Y s ≡ true → Writable (sys_of b t s)
   unfolding sys_of ok_sys ok_member members_of has
-  sys_writable s e = a_sys (nm.component s (g.b2.sys-spec s e)) (every_of valid_name (name_at t.comps) (lu s)
-      (λ c k. nm.component c (g.b2.use-spec s c (sym ((lu_lists st ok s).each c) ∙ k))))
+  sys_writable s e = a_sys (nm.component s (g.b2.sys_spec s e)) (every_of valid_name (name_at t.comps) (lu s)
+      (λ c k. nm.component c (g.b2.use_spec s c (sym ((lu_lists st ok s).each c) ∙ k))))
       (let q = a_usable s e in non_empty-map _ (lu s) (lists_non_empty (lu s) _ (lu_lists st ok s) q.0 q.1))
       (every_of ok_sys _ (lk s) (λ v k.
       let j = sym ((lk_lists st ok s).each v) ∙ k in let a = a_member s v j in
-      and_in _ _ (nm.version s v (sym (g.b2.sys-covers s v e) ∙ j)) (and_in _ _
+      and_in _ _ (nm.version s v (sym (g.b2.sys_covers s v e) ∙ j)) (and_in _ _
       (non_empty-map _ (lm s v) (lists_non_empty (lm s v) _ (lm_lists st ok s v) a.0 a.1))
       (every_of ok_member _ (lm s v) (λ c w. let q = in_member s v c w in
       let u = mem_usable S Y g.system_limits g.b5 s v c q.0 q.1 in
-      and_in _ _ (nm.component c (g.b2.use-spec s c u.0))
+      and_in _ _ (nm.component c (g.b2.use_spec s c u.0))
       (ap (λ (n : ℕ). valid_name (name_at t.vers n)) (or_at _ q.0 q.1) ∙ nm.version c q.0 u.1))))))
-      (non_empty-map _ (lk s) (lists_non_empty (lk s) _ (lk_lists st ok s) (standard S s) (g.b2.sys-covers s (standard S s) e
-      ∙ g.b1.std-in s (g.b2.sys-spec s e))))
+      (non_empty-map _ (lk s) (lists_non_empty (lk s) _ (lk_lists st ok s) (standard S s) (g.b2.sys_covers s (standard S s) e
+      ∙ g.b1.std_in s (g.b2.sys_spec s e))))
 
   numbered_member : Name × Option Name → ℕ × Option ℕ
   numbered_member m = (number reached.comps m.0, option_map (number reached.vers) m.1)
@@ -331,14 +331,14 @@ module _ (st : State) (ok : NamedGood st) where
   unfolding with_modules with_systems
   modules_done =
       let e = only_all (pushed new_c ms []) modules'
-      (λ m k. back_in (is_module M) (λ n z. g.b2.mod-spec n z) ms (λ n z. (ms_lists st ok).each n ∙ z) m
+      (λ m k. back_in (is_module M) (λ n z. g.b2.mod_spec n z) ms (λ n z. (ms_lists st ok).each n ∙ z) m
       (sym (is_module' b re m) ∙ (unfold is_module in k))) in
       λ i. record { specs = specs'; modules = e i; systems = sym (only_none systems') i }
 
   systems_done : systems_in (pushed new_c ss []) ≡ rebuilt
   unfolding with_systems
   systems_done =
-      let e = only_all (pushed new_c ss []) systems' (λ m k. back_in (is_system Y) (λ n z. g.b2.sys-spec n z) ss
+      let e = only_all (pushed new_c ss []) systems' (λ m k. back_in (is_system Y) (λ n z. g.b2.sys_spec n z) ss
       (λ n z. systems_all b g (by_name t.comps components (is_system Y)) (ys_lists st ok) n z) m
       (sym (is_system' b re m) ∙ (unfold is_system in k))) in
       λ i. record { specs = specs'; modules = modules'; systems = e i }
@@ -353,7 +353,7 @@ module _ (st : State) (ok : NamedGood st) where
   modules_accepted : Accepts reached (modules_in []) (map (mod_of b t) ms) (systems_in [])
   modules_accepted = subst (Accepts reached (modules_in []) (map (mod_of b t) ms)) modules_done
       (phase reached new_c modules_in (mod_of b t) _ mod_step
-      (list_in_turn re.of_c (is_module M) (λ n e. g.b2.mod-spec n e) ms [] (ms_lists st ok).once
+      (list_in_turn re.of_c (is_module M) (λ n e. g.b2.mod_spec n e) ms [] (ms_lists st ok).once
       (λ n e. (sym ((ms_lists st ok).each n) ∙ e, (unfold elem in refl)))))
 
   systems_accepted : Accepts reached (systems_in []) (map (sys_of b t) ss) rebuilt

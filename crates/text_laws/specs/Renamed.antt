@@ -131,7 +131,7 @@ module _ (b : Book) (g : Good b) (S₁ : Specs) (Y₁ : Systems) (re : Renumberi
   any_f Q h = any_through re.of_f Q (λ n t. (h n t, used_f< n (h n t)))
 
   member_spec : (s v c w : ℕ) → member Y s v c ≡ some w → specified S c ≡ true
-  member_spec s v c w e = g.b2.use-spec s c (mem_usable S Y g.system_limits g.b5 s v c w e).0
+  member_spec s v c w e = g.b2.use_spec s c (mem_usable S Y g.system_limits g.b5 s v c w e).0
 
   has_spec : (s v c : ℕ) (t : ℕ → Bool) → has (member Y s v c) t ≡ true → specified S c ≡ true
   has_spec s v c t h = let q = has_out _ t h in member_spec s v c q.0 q.1
@@ -191,7 +191,7 @@ module _ (b : Book) (g : Good b) (S₁ : Specs) (Y₁ : Systems) (re : Renumberi
   unfolding offered
   offered_like s f y =
       any_cong components (λ c. ap₂ ◌&◌ (K.uses s c y) (K.prov c f))
-      ∙ any_c (λ c. usable Y (old_c s) c & provides S c (old_f f)) (λ c t. g.b2.use-spec (old_c s) c (and_l _ _ t))
+      ∙ any_c (λ c. usable Y (old_c s) c & provides S c (old_f f)) (λ c t. g.b2.use_spec (old_c s) c (and_l _ _ t))
 
   pub B3_like : B3 S₁ Y₁ ≡ true
   unfolding B3 B3_at subset

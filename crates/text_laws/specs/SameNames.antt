@@ -66,23 +66,23 @@ module _ (s : State) (p : NamedGood s) where
   use_q c v f e = (p.good.spec_limits.required< c v f e, valid-some _ (p.named.required c v f e))
 
   is_c : (c : ℕ) → specified s.book.specs c ≡ true → place s.tables.comps (name_at s.tables.comps c) ≡ some c
-  is_c c e = place_of _ p.named.comps-once c (use_c c e).1
+  is_c c e = place_of _ p.named.comps_once c (use_c c e).1
 
   is_v : (c v : ℕ) → has_version s.book.specs c v ≡ true → place s.tables.vers (name_at s.tables.vers v) ≡ some v
-  is_v c v e = place_of _ p.named.vers-once v (use_v c v e).1
+  is_v c v e = place_of _ p.named.vers_once v (use_v c v e).1
 
   is_i : (c v i : ℕ) → implementation s.book.modules c v ≡ some i
       → place s.tables.impls (name_at s.tables.impls i) ≡ some i
-  is_i c v i e = place_of _ p.named.impls-once i (impl_some _ (p.named.implemented c v i e))
+  is_i c v i e = place_of _ p.named.impls_once i (impl_some _ (p.named.implemented c v i e))
 
   pub sys_version_lem : (c v : ℕ) → is_system s.book.systems c ≡ true → composed s.book.systems c v ≡ true
       → has_version s.book.specs c v ≡ true
-  sys_version_lem c v y e = sym (p.good.b2.sys-covers c v y) ∙ e
+  sys_version_lem c v y e = sym (p.good.b2.sys_covers c v y) ∙ e
 
   pub member_of_lem : (c v d w : ℕ) → member s.book.systems c v d ≡ some w
       → (specified s.book.specs d ≡ true) × (has_version s.book.specs d w ≡ true)
   member_of_lem c v d w e = let u = mem_usable _ _ p.good.system_limits p.good.b5 c v d w e in
-      (p.good.b2.use-spec c d u.0, u.1)
+      (p.good.b2.use_spec c d u.0, u.1)
 
 -- ---- two states that say the same
 
@@ -156,7 +156,7 @@ module _ (s s' : State) (A : Alike s s') where
         let P : (x : State) → Name → ℕ → Bool = λ x w c. at x.tables.vers w (λ v. specified x.book.specs c
         & v == standard x.book.specs c) in
         let e = sym (read (λ c. Standard c (W d)) (P s (W d)) (P s' (W d)) (λ w. refl) (λ w. refl))
-        ∙ at_here _ _ d _ (is_v s p c d (p.good.b1.std-in c k.there)) ∙ and_in _ _ k.there (==-same d) in
+        ∙ at_here _ _ d _ (is_v s p c d (p.good.b1.std_in c k.there)) ∙ and_in _ _ k.there (==-same d) in
         let q = at_out _ _ _ e in
         sym q.1 ∙ ap W' (==-out _ _ (and_r _ _ q.2))
 
@@ -227,16 +227,16 @@ module _ (s s' : State) (A : Alike s s') where
       → elem x' out' ≡ true
   elem_fwd out out' e x x' k a =
       let r = among_names_out N' out' (N x) (ap (among (N x)) (sym e) ∙ among_names_in N out x a) in
-      ap (λ (z : ℕ). elem z out') (p'.named.comps-once x' r.0 (use_c s' p' x' k.there').1 (sym k.named ∙ r.2)) ∙ r.1
+      ap (λ (z : ℕ). elem z out') (p'.named.comps_once x' r.0 (use_c s' p' x' k.there').1 (sym k.named ∙ r.2)) ∙ r.1
 
   pub ready_fwd : (out out' : List ℕ) → map N out ≡ map N' out' → (x x' : ℕ) → SameName x x'
       → ready s.book.systems out x ≡ true
       → ready s'.book.systems out' x' ≡ true
   unfolding ready
   ready_fwd out out' e x x' k a = all_in _ _ (λ c' l. imp_in _ _ (λ u'. imp_in _ _ (λ y'.
-      let t' = p'.good.b2.use-spec x' c' u' in
+      let t' = p'.good.b2.use_spec x' c' u' in
       let q = at_out _ _ _ (usable_same x x' k (N' c') ∙ at_here _ _ c' (usable s'.book.systems x') (is_c s' p' c' t') ∙ u') in
       let c = q.0 in
-      let tw : SameName c c' = record { there = p.good.b2.use-spec x c q.2; there' = t'; named = q.1 } in
+      let tw : SameName c c' = record { there = p.good.b2.use_spec x c q.2; there' = t'; named = q.1 } in
       elem_fwd out out' e c c' tw (imp_out _ _ (imp_out _ _ (all_out _ _ a c (p.good.system_limits.usable< x c q.2)) q.2)
       (system_same c c' tw ∙ y')))))

@@ -142,10 +142,10 @@ reached_named s r = record {
   required = λ c v f e. (let q = req_at c v f e in every_at valid_name _ f (r.valid a_facility) q);
   implemented = λ c v i e. (let q = and_then_out (s.book.modules c) (λ m. m v) i (unfold implementation in e) in
       every_at valid_implementation _ i (r.valid an_implementation) (r.numbers.modules c q.0 q.1 v i q.2));
-  comps-once = apart-once _ (r.once a_component);
-  vers-once = apart-once _ (r.once a_version);
-  facs-once = apart-once _ (r.once a_facility);
-  impls-once = apart-once _ (r.once an_implementation);
+  comps_once = apart-once _ (r.once a_component);
+  vers_once = apart-once _ (r.once a_version);
+  facs_once = apart-once _ (r.once a_facility);
+  impls_once = apart-once _ (r.once an_implementation);
 }
   where
     spec_at_lem : (c v : ℕ) → has_version s.book.specs c v ≡ true

@@ -30,9 +30,9 @@ pub record SpecLists (S : Specs) (c : ℕ) : Type 0 where
   pub facs : List ℕ
   pub vers : List ℕ
   pub reqs : ℕ → List ℕ
-  pub facs-all : Lists facs (provides S c)
-  pub vers-all : Lists vers (has_version S c)
-  pub reqs-all : (v : ℕ) → Lists (reqs v) (requires S c v)
+  pub facs_all : Lists facs (provides S c)
+  pub vers_all : Lists vers (has_version S c)
+  pub reqs_all : (v : ℕ) → Lists (reqs v) (requires S c v)
 
 module _ (b : Book) (g : Good b) (re : Renumbering b.specs b.modules) where
   abbrev S : Specs
@@ -80,13 +80,13 @@ module _ (b : Book) (g : Good b) (re : Renumbering b.specs b.modules) where
     lq = ls.reqs
 
     kp : Lists lp (provides S c)
-    kp = ls.facs-all
+    kp = ls.facs_all
 
     kv : Lists lv (has_version S c)
-    kv = ls.vers-all
+    kv = ls.vers_all
 
     kq : (v : ℕ) → Lists (lq v) (requires S c v)
-    kq = ls.reqs-all
+    kq = ls.reqs_all
 
     used_p : (f : ℕ) → provides S c f ≡ true → UsedF S f
     used_p f e = provided_by c e
@@ -98,7 +98,7 @@ module _ (b : Book) (g : Good b) (re : Renumbering b.specs b.modules) where
     used_q v f e = required_by c v e
 
     std_back : old_v (new_v (standard S c)) ≡ standard S c
-    std_back = re.of_v.back _ (version_of c (g.b1.std-in c there))
+    std_back = re.of_v.back _ (version_of c (g.b1.std_in c there))
 
     spec_small : in_limits (spec_command c ls) ≡ true
     unfolding in_limits spec_command each_below
@@ -108,7 +108,7 @@ module _ (b : Book) (g : Good b) (re : Renumbering b.specs b.modules) where
         (and_in _ _ (ap (every (λ x. x <? versions)) (firsts-map new_v _ lv) ∙ new_small re.of_v lv kv used_v)
         (and_in _ _ (ap (every (every (λ x. x <? facilities))) (seconds-map new_v _ lv)
         ∙ every_of _ _ lv (λ v e. new_small re.of_f (lq v) (kq v) (used_q v)))
-        (<?_in _ _ (re.of_v.small _ (version_of c (g.b1.std-in c there)))))))
+        (<?_in _ _ (re.of_v.small _ (version_of c (g.b1.std_in c there)))))))
 
     spec_free : every (free (set_of (map new_f lp))) (map (λ v. map new_f (lq v)) lv) ≡ true
     unfolding free set_of
@@ -120,14 +120,14 @@ module _ (b : Book) (g : Good b) (re : Renumbering b.specs b.modules) where
     unfolding answer questions spec_command with_specs specified is_some
     spec_yes = no_no
         (yes_all spec_small
-        (yes_all (non_empty-map _ lv (lists_non_empty lv _ kv _ (g.b1.std-in c there)))
+        (yes_all (non_empty-map _ lv (lists_non_empty lv _ kv _ (g.b1.std_in c there)))
         (yes_all (ap once (firsts-map new_v _ lv) ∙ new_once re.of_v lv kv used_v)
         (yes_all (not_in _ (ap is_some (only_out l S' (new_c c) fresh)))
         (yes_all (≤?_in _ _ (subst (λ (n : ℕ). n ≤ 8) (sym (length-map _ lv))
         (le_trans (lists_length versions lv _ kv (λ v e. g.spec_limits.version< c v e)) (g.b1.few c))))
         (yes_all (ap (every (free (set_of (map new_f lp)))) (seconds-map new_v _ lv) ∙ spec_free)
         (yes_all (ap (elem (new_v (standard S c))) (firsts-map new_v _ lv)
-        ∙ new_each re.of_v lv kv used_v (new_v (standard S c)) ∙ ap (has_version S c) std_back ∙ g.b1.std-in c there)
+        ∙ new_each re.of_v lv kv used_v (new_v (standard S c)) ∙ ap (has_version S c) std_back ∙ g.b1.std_in c there)
         none_left)))))))
 
     req_new : (x : Spec) → S c ≡ some x → (v : ℕ)

@@ -36,9 +36,9 @@ pub record SysLists (Y : Systems) (s : ℕ) : Type 0 where
   pub vers : List ℕ
   pub mems : ℕ → List ℕ
   pub held : ℕ → ℕ → ℕ
-  pub uses-all : Lists uses (usable Y s)
-  pub vers-all : Lists vers (composed Y s)
-  pub mems-all : (v : ℕ) → Lists (mems v) (is_member Y s v)
+  pub uses_all : Lists uses (usable Y s)
+  pub vers_all : Lists vers (composed Y s)
+  pub mems_all : (v : ℕ) → Lists (mems v) (is_member Y s v)
   pub held_is : (v c w : ℕ) → member Y s v c ≡ some w → held v c ≡ w
 
 module _ (b : Book) (g : Good b) (re : Renumbering b.specs b.modules) where
@@ -151,28 +151,28 @@ module _ (b : Book) (g : Good b) (re : Renumbering b.specs b.modules) where
     mv = ls.held
 
     ku : Lists lu (usable Y s)
-    ku = ls.uses-all
+    ku = ls.uses_all
 
     kv : Lists lv (composed Y s)
-    kv = ls.vers-all
+    kv = ls.vers_all
 
     km : (v : ℕ) → Lists (lm v) (is_member Y s v)
-    km = ls.mems-all
+    km = ls.mems_all
 
     kw : (v c w : ℕ) → member Y s v c ≡ some w → mv v c ≡ w
     kw = ls.held_is
 
     sys_spec : specified S s ≡ true
-    sys_spec = g.b2.sys-spec s there
+    sys_spec = g.b2.sys_spec s there
 
     back_s : old_c (new_c s) ≡ s
     back_s = re.of_c.back s sys_spec
 
     sys_u : (c : ℕ) → usable Y s c ≡ true → UsedC S c
-    sys_u c u = g.b2.use-spec s c u
+    sys_u c u = g.b2.use_spec s c u
 
     sys_v : (v : ℕ) → composed Y s v ≡ true → UsedV S v
-    sys_v v e = version_of s (sym (g.b2.sys-covers s v there) ∙ e)
+    sys_v v e = version_of s (sym (g.b2.sys_covers s v there) ∙ e)
 
     mem_c : (v c : ℕ) → is_member Y s v c ≡ true → UsedC S c
     unfolding is_member
@@ -269,14 +269,14 @@ module _ (b : Book) (g : Good b) (re : Renumbering b.specs b.modules) where
         (ap (every (every member_below)) (seconds-map new_v _ lv) ∙ every_of _ _ lv (λ v e. member_small v))))
 
     no_module : is_module M s ≡ false
-    no_module = fails _ (λ m. clash {A = ⊥} there (g.b2.mod-sys s m))
+    no_module = fails _ (λ m. clash {A = ⊥} there (g.b2.mod_sys s m))
 
     pub sys_yes : answer (with_systems l) (sys_command s ls) ≡ 0
     unfolding answer questions sys_command with_systems exactly no_requirements
     sys_yes = no_no
         (yes_all sys_small
         (yes_all (and_in _ _ (non_empty-map _ lv
-        (lists_non_empty lv _ kv (standard S s) (g.b2.sys-covers s (standard S s) there ∙ g.b1.std-in s sys_spec)))
+        (lists_non_empty lv _ kv (standard S s) (g.b2.sys_covers s (standard S s) there ∙ g.b1.std_in s sys_spec)))
         (ap (every non_empty) (seconds-map new_v _ lv) ∙ every_of _ _ lv (λ v e. member_some v (sym (kv.each v) ∙ e))))
         (yes_all (and_in _ _ (ap once (firsts-map new_v _ lv) ∙ new_once re.of_v lv kv sys_v)
         (and_in _ _ (new_once re.of_c lu ku sys_u)
@@ -285,11 +285,11 @@ module _ (b : Book) (g : Good b) (re : Renumbering b.specs b.modules) where
         (yes_all (is_undefined_lem M' (only l Y') (new_c s) (is_module' b re (new_c s) ∙ ap (is_module M) back_s ∙ no_module)
         (none_yet l (new_c s) fresh))
         (yes_all (all_in _ _ (λ v k. iff_in _ _ (ap (elem v) (firsts-map new_v _ lv)
-        ∙ new_each re.of_v lv kv sys_v v ∙ g.b2.sys-covers s (old_v v) there
+        ∙ new_each re.of_v lv kv sys_v v ∙ g.b2.sys_covers s (old_v v) there
         ∙ ap (λ (z : ℕ). has_version S z (old_v v)) (sym back_s) ∙ sym (has_version' b re (new_c s) v))))
         (yes_all (all_in _ _ (λ v k. all_in _ _
         (λ f j. not_in _ (requires' b re (new_c s) v f ∙ ap (λ (z : ℕ). requires S z (old_v v) (old_f f)) back_s
-        ∙ g.b2.sys-bare s (old_v v) (old_f f) there))))
+        ∙ g.b2.sys_bare s (old_v v) (old_f f) there))))
         (yes_all (every_of _ new_c lu (λ c e. let u = sys_u c (sym (ku.each c) ∙ e) in specified' b re (new_c c)
         ∙ ap (specified S) (re.of_c.back c u) ∙ u))
         (yes_all (ap (B3 S') system_after ∙ keeps3 (new_c s ∷ l) closed)

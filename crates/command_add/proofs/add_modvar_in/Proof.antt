@@ -21,7 +21,7 @@ put-modvar-requires c κs = (
     room = record {
       component< = modvar_component _ _ _ _ _ (sym c.before.before.before.modvar-answer.ensures ∙ c.before.before.if1.false);
       is_proper = passes-proper _ _ c.before.before.before.before.before.before.requires;
-      is_specified = (passes→good (passes_plain _ _ c.before.before.before.before.before.before.requires)).b2.mod-spec _ (modvar_module _ _ _ _ _ (sym c.before.before.before.modvar-answer.ensures ∙ c.before.before.if1.false));
+      is_specified = (passes→good (passes_plain _ _ c.before.before.before.before.before.before.requires)).b2.mod_spec _ (modvar_module _ _ _ _ _ (sym c.before.before.before.modvar-answer.ensures ∙ c.before.before.if1.false));
       is_room = modvar_room _ _ _ _ _ (sym c.before.before.before.modvar-answer.ensures ∙ c.before.before.if1.false);
     };
     version< = modvar_version _ _ _ _ _ (sym c.before.before.before.modvar-answer.ensures ∙ c.before.before.if1.false);

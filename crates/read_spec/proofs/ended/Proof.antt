@@ -9,7 +9,7 @@ use Rattle.read_spec.proofs.ended.Lts as lts
 -- src/lib.rt:420:1
 returns : tie.Need-returns
 unfolding ~◌ ◌&◌ spec_state
-returns c = record { there-is = refl; end_is = refl; rest = λ w f. refl }
+returns c = record { there_is = refl; end_is = refl; rest = λ w f. refl }
 
 pub ended-spec : {M : Type 1} → statement M
 ended-spec = tie.close (tie.spec returns)

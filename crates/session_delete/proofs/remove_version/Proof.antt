@@ -10,7 +10,7 @@ place-of-requires : tie.Need-place-of-requires
 place-of-requires c κs =
     let read = c.before.before.before in
     let p = pair_took read.before.before.args.kind _ _ _ read.read-pair.ensures c.before.if1.false in
-    (read.before.before.requires.0.comps.long, (p.component, p.component-fits))
+    (read.before.before.requires.0.comps.long, (p.component, p.component_fits))
 
 returns-2 : tie.Need-returns-2
 returns-2 c =
@@ -28,7 +28,7 @@ place-of-requires-2 : tie.Need-place-of-requires-2
 place-of-requires-2 c κs =
     let read = c.before.before.before.before.before.before.before.before in
     let p = pair_took read.before.before.args.kind _ _ _ read.read-pair.ensures c.before.before.before.before.before.before.if1.false in
-    (read.before.before.requires.0.vers.long, (p.version, p.version-fits))
+    (read.before.before.requires.0.vers.long, (p.version, p.version_fits))
 
 version-answer-requires : tie.Need-version-answer-requires
 version-answer-requires c κs =

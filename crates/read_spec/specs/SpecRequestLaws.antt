@@ -124,7 +124,7 @@ module _ (t : Text) (at a : ℕ) (c₀ : Bool) (Q : Name → Type 0) (n : Answer
 gather_fold : (g : Gathered Set) (xs : List (ℕ × List ℕ)) → fold_on sets_step g xs ≡ gather versions (each_below facilities) always always set_of g xs
 unfolding fold_on gather sets_step
 gather_fold g [] = refl
-gather_fold g (x ∷ xs) = gather_fold _ xs
+gather_fold g (x ∷ xs) = gather_fold (sets_step g x) xs
 
 and-room : (a b c d : Bool) → d ≡ true → (a & (b & c)) ≡ (a & (b & (c & d)))
 and-room a b c d e = ap (λ (x : Bool). a & (b & x)) (sym (ap (λ (x : Bool). c & x) e ∙ and_swap c true ∙ and-true _ _ refl))

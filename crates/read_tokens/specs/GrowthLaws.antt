@@ -14,6 +14,7 @@ use Rattle.sets.specs.Tests.{◌&◌, ◌≤?◌, if◌then◌else◌}
 use Rattle.text.specs.Language.{Name}
 use Rattle.text.specs.Tables.{Table, Tables, enter, joined, number, place}
 use Rattle.text_laws.specs.Places.{enter_has, enter_longer, place-among, place_longer, place_name, place_there}
+use Rattle.text.specs.Bytes.{among}
 use Rattle.model_laws.specs.MapLaws.{is_some_out, no_some}
 use Rattle.read_tokens.specs.Entering.{Enters}
 use Rattle.read_tokens.specs.Growth.{Grows, Later, Longer, NumberedAll, NumberedOne, fold_on}
@@ -24,7 +25,7 @@ use Rattle.read_tokens.specs.Steps.{Each}
 enter_append : (t : Table) (xs ys : List Name) → enter t (xs ++ ys) ≡ enter (enter t xs) ys
 unfolding enter
 enter_append t [] ys = refl
-enter_append t (x ∷ xs) ys = enter_append _ xs ys
+enter_append t (x ∷ xs) ys = enter_append (if among x t then t else (t ++ (x ∷ []))) xs ys
 
 pub enter_nothing : (t : Table) → enter t [] ≡ t
 unfolding enter

@@ -171,7 +171,7 @@ module _ (t : Text) (at a : ℕ) (c₀ : Bool) (Q : Name → Type 0) (n : Answer
 gather_fold : (g : Gathered ℕ) (xs : List (ℕ × ℕ)) → fold_on numbers_step g xs ≡ gather versions is_implementation always always itself g xs
 unfolding fold_on gather numbers_step
 gather_fold g [] = refl
-gather_fold g (x ∷ xs) = gather_fold _ xs
+gather_fold g (x ∷ xs) = gather_fold (numbers_step g x) xs
 
 mod_vers : (s s' : ModState) (xs : List (Name × Name)) → length s.vers ≤ versions → Each ModStep s s' xs
     → Grows versions s.vers s'.vers s.vers_fit s'.vers_fit (map (λ x. x.0) xs)

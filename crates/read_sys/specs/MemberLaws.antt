@@ -213,4 +213,4 @@ member_all s s' xs e y = numbered_all MemberStep member_tables (λ s. s.comps_fi
 pub members_fold : (g : Gathered (Option ℕ)) (xs : Members) → fold_on members_step g xs ≡ gather components is_version_or_none always always itself g xs
 unfolding fold_on gather members_step
 members_fold g [] = refl
-members_fold g (x ∷ xs) = members_fold _ xs
+members_fold g (x ∷ xs) = members_fold (members_step g x) xs

@@ -243,7 +243,7 @@ sys_all s s' xs e y = numbered_all SysStep sys_tables (λ s. s.comps_fit & s.ver
 compositions_fold : (g : Gathered (Map (Option ℕ))) (xs : List (ℕ × Members)) → fold_on compositions_step g xs ≡ compositions_from g xs
 unfolding fold_on gather compositions_step compositions_from
 compositions_fold g [] = refl
-compositions_fold g (x ∷ xs) = compositions_fold _ xs
+compositions_fold g (x ∷ xs) = compositions_fold (compositions_step g x) xs
 
 -- ---- what it asks for
 

@@ -172,7 +172,7 @@ usables_all s s' ws e y = numbered_all UsableStep (λ (s : Usables). usable_tabl
 usable_fold : (g : Gathered (Unit {0})) (ks : List ℕ) → fold_on add_usable g ks ≡ gather components always always always itself g (map alone ks)
 unfolding fold_on gather usable_step
 usable_fold g [] = refl
-usable_fold g (k ∷ ks) = usable_fold _ ks
+usable_fold g (k ∷ ks) = usable_fold (add_usable g k) ks
 
 -- ---- versions with their compositions
 

@@ -272,7 +272,7 @@ fn told(rt: &HostRuntime, words: &[u8], o: Outcome) -> Book {
 // ---- the Book, and what else is done with it
 
 // The Book, and the two that are kept.
-#[derive(Drop)]
+#[derive(Clone, Copy)]
 struct Books {
     book: Book,
     first: Book,

@@ -5,18 +5,18 @@ use book::Book;
 use std::io::Write;
 
 // A write that fails is passed over.
-fn put(rt: &HostRuntime, text: &[u8]) {
+fn write_out(rt: &HostRuntime, text: &[u8]) {
     let _ = rt.stdout().write_all(text);
 }
 
-fn put_decimal(rt: &HostRuntime, n: u64) {
+fn write_decimal(rt: &HostRuntime, n: u64) {
     let _ = rt.print(n);
 }
 
 fn say(rt: &HostRuntime, text: &[u8], n: u64) {
-    put(rt, text);
-    put_decimal(rt, n);
-    put(rt, b"\n");
+    write_out(rt, text);
+    write_decimal(rt, n);
+    write_out(rt, b"\n");
 }
 
 fn say_row(rt: &HostRuntime, text: &[u8], row: u16) {

@@ -49,16 +49,16 @@ const NUMBER: usize = 13;
 const OTHER: usize = 14;
 
 // A write that fails is passed over.
-fn put(rt: &HostRuntime, text: &[u8]) {
+fn write_out(rt: &HostRuntime, text: &[u8]) {
     let _ = rt.stdout().write_all(text);
 }
 
-fn put_decimal(rt: &HostRuntime, n: u64) {
+fn write_decimal(rt: &HostRuntime, n: u64) {
     let _ = rt.print(n);
 }
 
 fn report(rt: &HostRuntime) {
-    put(rt, b"a line that is not of the form\n");
+    write_out(rt, b"a line that is not of the form\n");
 }
 
 // ---- lists of numbers
@@ -262,10 +262,10 @@ fn call(rt: &HostRuntime, command: usize, b: Book, args: &[u8]) -> Outcome {
 }
 
 fn told(rt: &HostRuntime, words: &[u8], o: Outcome) -> Book {
-    put(rt, words);
-    put(rt, b": ");
-    put_decimal(rt, o.answer as u64);
-    put(rt, b"\n");
+    write_out(rt, words);
+    write_out(rt, b": ");
+    write_decimal(rt, o.answer as u64);
+    write_out(rt, b"\n");
     o.book
 }
 
@@ -418,8 +418,8 @@ fn carry_out(rt: &HostRuntime, books: Books, words: &[u8], args: &[u8]) -> Books
 }
 
 fn print_heading(rt: &HostRuntime, line: &[u8]) {
-    put(rt, line);
-    put(rt, b"\n");
+    write_out(rt, line);
+    write_out(rt, b"\n");
 }
 
 fn do_line(rt: &HostRuntime, books: Books, line: &[u8]) -> Books {

@@ -13,11 +13,11 @@ use commands::Outcome;
 use std::io::Write;
 
 // A write that fails is passed over.
-fn put(rt: &HostRuntime, text: &[u8]) {
+fn write_out(rt: &HostRuntime, text: &[u8]) {
     let _ = rt.stdout().write_all(text);
 }
 
-fn put_decimal(rt: &HostRuntime, n: u64) {
+fn write_decimal(rt: &HostRuntime, n: u64) {
     let _ = rt.print(n);
 }
 
@@ -214,8 +214,8 @@ fn teach() -> Taught
 }
 
 fn say(rt: &HostRuntime, answer: u8) {
-    put_decimal(rt, answer as u64);
-    put(rt, b"\n");
+    write_decimal(rt, answer as u64);
+    write_out(rt, b"\n");
 }
 
 fn say_all(rt: &HostRuntime, answers: &[u8]) {

@@ -60,26 +60,26 @@ const PARTS: usize = 27;
 // ---- what was read, printed
 
 // A write that fails is passed over.
-fn put(rt: &HostRuntime, text: &[u8]) {
+fn write_out(rt: &HostRuntime, text: &[u8]) {
     let _ = rt.stdout().write_all(text);
 }
 
-fn put_decimal(rt: &HostRuntime, n: u64) {
+fn write_decimal(rt: &HostRuntime, n: u64) {
     let _ = rt.print(n);
 }
 
 fn print(rt: &HostRuntime, text: &[u8]) {
-    put(rt, text);
+    write_out(rt, text);
 }
 
 fn print_number(rt: &HostRuntime, before: &[u8], n: usize) {
-    put(rt, before);
-    put_decimal(rt, n as u64);
+    write_out(rt, before);
+    write_decimal(rt, n as u64);
 }
 
 // The start of a line: the number of the text, what is said of a command, a position.
 fn print_start(rt: &HostRuntime, number: usize, said: &[u8], at: usize) {
-    put_decimal(rt, number as u64);
+    write_decimal(rt, number as u64);
     print_number(rt, said, at);
 }
 
@@ -151,7 +151,7 @@ fn print_implementations(rt: &HostRuntime, listed: u64, at: [u8; 64]) {
         if sets::member(listed, v) {
             print_number(rt, b"; v", v);
             print(rt, b" impl ");
-            put_decimal(rt, at[v] as u64);
+            write_decimal(rt, at[v] as u64);
         }
     }
 }
@@ -176,7 +176,7 @@ fn print_member(rt: &HostRuntime, m: usize, version: u8) {
     print_number(rt, b" c", m);
     if version < 64 {
         print(rt, b".v");
-        put_decimal(rt, version as u64);
+        write_decimal(rt, version as u64);
     }
 }
 

@@ -9,18 +9,18 @@ ghost use Rattle.names.specs.Stored.{table_of};
 use std::io::Write;
 
 // A write that fails is passed over.
-fn put(rt: &HostRuntime, text: &[u8]) {
+fn write_out(rt: &HostRuntime, text: &[u8]) {
     let _ = rt.stdout().write_all(text);
 }
 
-fn put_decimal(rt: &HostRuntime, n: u64) {
+fn write_decimal(rt: &HostRuntime, n: u64) {
     let _ = rt.print(n);
 }
 
 // A line with a place.
 fn show(rt: &HostRuntime, place: usize) {
-    put_decimal(rt, place as u64);
-    put(rt, b"\n");
+    write_decimal(rt, place as u64);
+    write_out(rt, b"\n");
 }
 
 fn show_entered(rt: &HostRuntime, names: &mut [u8], places: usize, word: &[u8])
@@ -30,7 +30,7 @@ fn show_entered(rt: &HostRuntime, names: &mut [u8], places: usize, word: &[u8])
     ensures { every non_empty (table_of places names.new) ≡ true }
 {
     let names::Found::At(k) = names::enter(names, places, word) else {
-        put(rt, b"no room\n");
+        write_out(rt, b"no room\n");
         return;
     };
     show(rt, k);
@@ -41,7 +41,7 @@ fn show_found(rt: &HostRuntime, names: &[u8], places: usize, word: &[u8])
     requires word_value { short word.now ≡ true }
 {
     let names::Found::At(k) = names::lookup(names, places, word) else {
-        put(rt, b"no number\n");
+        write_out(rt, b"no number\n");
         return;
     };
     show(rt, k);

@@ -32,50 +32,50 @@ const BEFORE: u16 = 2047;
 // ---- lines
 
 // A write that fails is passed over.
-fn put(rt: &HostRuntime, text: &[u8]) {
+fn write_out(rt: &HostRuntime, text: &[u8]) {
     let _ = rt.stdout().write_all(text);
 }
 
-fn put_decimal(rt: &HostRuntime, n: u64) {
+fn write_decimal(rt: &HostRuntime, n: u64) {
     let _ = rt.print(n);
 }
 
 fn line(rt: &HostRuntime, text: &[u8]) {
-    put(rt, text);
-    put(rt, b"\n");
+    write_out(rt, text);
+    write_out(rt, b"\n");
 }
 
 fn answered(rt: &HostRuntime, text: &[u8], answer: u8) {
-    put(rt, text);
-    put(rt, b": ");
-    put_decimal(rt, answer as u64);
+    write_out(rt, text);
+    write_out(rt, b": ");
+    write_decimal(rt, answer as u64);
 }
 
 fn show_row(rt: &HostRuntime, row: u16) {
-    put(rt, b" ");
-    put_decimal(rt, (row / 64) as u64);
-    put(rt, b".");
-    put_decimal(rt, (row % 64) as u64);
+    write_out(rt, b" ");
+    write_decimal(rt, (row / 64) as u64);
+    write_out(rt, b".");
+    write_decimal(rt, (row % 64) as u64);
 }
 
 fn show_rows(rt: &HostRuntime, rows: &[u16]) {
     for k in 0..rows.len() {
         show_row(rt, rows[k]);
     }
-    put(rt, b"\n");
+    write_out(rt, b"\n");
 }
 
 // A line with a query's answer and the numbers in its set.
 fn show_set(rt: &HostRuntime, text: &[u8], answer: u8, set: u64) {
     answered(rt, text, answer);
-    put(rt, b";");
+    write_out(rt, b";");
     for n in 0..64 {
         if sets::member(set, n) {
-            put(rt, b" ");
-            put_decimal(rt, n as u64);
+            write_out(rt, b" ");
+            write_decimal(rt, n as u64);
         }
     }
-    put(rt, b"\n");
+    write_out(rt, b"\n");
 }
 
 // A line with the answer for the parts of c, v, the number of rows and the slice. Gives the depth back.
@@ -89,9 +89,9 @@ fn show_parts(
 ) -> usize {
     let list = parts::parts(b, c, v, out);
     answered(rt, text, list.answer);
-    put(rt, b", rows ");
-    put_decimal(rt, list.rows as u64);
-    put(rt, b";");
+    write_out(rt, b", rows ");
+    write_decimal(rt, list.rows as u64);
+    write_out(rt, b";");
     show_rows(rt, out);
     list.depth
 }
@@ -110,9 +110,9 @@ fn parts_of_none(rt: &HostRuntime, text: &[u8], b: Book, c: usize, v: usize) -> 
 
 // A depth stands in the listing where the longest chain is the number of systems plus one, so that the two bounds are one.
 fn show_depth(rt: &HostRuntime, depth: usize) {
-    put(rt, b"depth: ");
-    put_decimal(rt, depth as u64);
-    put(rt, b"\n");
+    write_out(rt, b"depth: ");
+    write_decimal(rt, depth as u64);
+    write_out(rt, b"\n");
 }
 
 // ---- books, by calls
@@ -121,14 +121,14 @@ fn show_depth(rt: &HostRuntime, depth: usize) {
 fn taken(rt: &HostRuntime, o: Outcome) -> Book {
     if o.answer != 0 {
         answered(rt, b"refused", o.answer);
-        put(rt, b"\n");
+        write_out(rt, b"\n");
     }
     o.book
 }
 
 fn told(rt: &HostRuntime, text: &[u8], o: Outcome) -> Book {
     answered(rt, text, o.answer);
-    put(rt, b"\n");
+    write_out(rt, b"\n");
     o.book
 }
 

@@ -18,23 +18,23 @@ const BEFORE: u8 = 46;
 // ---- lines
 
 // A write that fails is passed over.
-fn put(rt: &HostRuntime, text: &[u8]) {
+fn write_out(rt: &HostRuntime, text: &[u8]) {
     let _ = rt.stdout().write_all(text);
 }
 
-fn put_decimal(rt: &HostRuntime, n: u64) {
+fn write_decimal(rt: &HostRuntime, n: u64) {
     let _ = rt.print(n);
 }
 
 fn print_number(rt: &HostRuntime, before: &[u8], n: u64) {
-    put(rt, before);
-    put_decimal(rt, n);
+    write_out(rt, before);
+    write_decimal(rt, n);
 }
 
 // A number at the end of a line.
 fn print_last(rt: &HostRuntime, before: &[u8], n: u64) {
     print_number(rt, before, n);
-    put(rt, b"\n");
+    write_out(rt, b"\n");
 }
 
 fn one_if_untouched(byte: u8) -> usize
@@ -59,10 +59,10 @@ fn untouched_from(out: &[u8], start: usize) -> usize {
 // What stands at the start of the slice, and how many of the bytes behind it are as they were.
 fn show_slice(rt: &HostRuntime, out: &[u8], len: usize) {
     if out.len() < len {
-        put(rt, b"longer than the slice\n");
+        write_out(rt, b"longer than the slice\n");
         return;
     }
-    put(rt, words::part(out, 0, len));
+    write_out(rt, words::part(out, 0, len));
     print_last(
         rt,
         b"untouched behind it: ",
@@ -72,7 +72,7 @@ fn show_slice(rt: &HostRuntime, out: &[u8], len: usize) {
 
 fn show_in(rt: &HostRuntime, label: &[u8], b: Book, t: Names, out: &mut [u8]) {
     let r = book_text::text_of(b, t, out);
-    put(rt, label);
+    write_out(rt, label);
     print_number(rt, b": ", r.answer as u64);
     print_last(rt, b", bytes ", r.len as u64);
     show_slice(rt, out, r.len);
@@ -99,7 +99,7 @@ fn enter(rt: &HostRuntime, names: &mut [u8], places: usize, word: &[u8])
     ensures { every non_empty (table_of places names.new) ≡ true }
 {
     if !words::is_valid_implementation(word) {
-        put(rt, b"no word\n");
+        write_out(rt, b"no word\n");
         return;
     }
     names::enter(names, places, word);

@@ -11,18 +11,18 @@ use std::io::Write;
 const PARTING: u8 = 12;
 
 // A write that fails is passed over.
-fn put(rt: &HostRuntime, text: &[u8]) {
+fn write_out(rt: &HostRuntime, text: &[u8]) {
     let _ = rt.stdout().write_all(text);
 }
 
-fn put_decimal(rt: &HostRuntime, n: u64) {
+fn write_decimal(rt: &HostRuntime, n: u64) {
     let _ = rt.print(n);
 }
 
 fn print(rt: &HostRuntime, kind: &[u8], part: &[u8]) {
-    put(rt, kind);
-    put(rt, part);
-    put(rt, b"\n");
+    write_out(rt, kind);
+    write_out(rt, part);
+    write_out(rt, b"\n");
 }
 
 fn print_tokens(rt: &HostRuntime, text: &[u8]) {
@@ -67,21 +67,21 @@ fn print_keyword(rt: &HostRuntime, word: &[u8]) {
     let names::Found::At(k) = words::keyword_of(word) else {
         return;
     };
-    put(rt, b" keyword ");
-    put_decimal(rt, k as u64);
+    write_out(rt, b" keyword ");
+    write_decimal(rt, k as u64);
 }
 
 fn print_kinds(rt: &HostRuntime, word: &[u8]) {
-    put(rt, word);
-    put(rt, b":");
+    write_out(rt, word);
+    write_out(rt, b":");
     print_keyword(rt, word);
     if words::is_valid_name(word) {
-        put(rt, b" name");
+        write_out(rt, b" name");
     }
     if words::is_valid_implementation(word) {
-        put(rt, b" implementation");
+        write_out(rt, b" implementation");
     }
-    put(rt, b"\n");
+    write_out(rt, b"\n");
 }
 
 // The end of the part that starts at `at`: where the next c stands, or all ends.

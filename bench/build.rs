@@ -1,4 +1,4 @@
-//! Links the static libraries of the crates `bench_host` and `svcd`, which `rt staticlib` writes.
+//! Links the static libraries of the crates `bench_host` and `svcd_c`, which `tests/static-library` writes.
 
 fn main() {
     let here = std::env::var("CARGO_MANIFEST_DIR").expect("cargo says where the package is");

@@ -1,4 +1,5 @@
-/* The version book's session, for a host program in C. Link libsvcd.a, which `rt staticlib svcd` proves and writes to target/staticlib. */
+/* The version book's session, for a host program in C. Link libsvcd.a, which `tests/static-library svcd_c` proves and writes to
+   target/staticlib. */
 #ifndef SVCD_H
 #define SVCD_H
 

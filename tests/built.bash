@@ -1,5 +1,5 @@
-# Sourced by the tests, at the top of the repository: the proved program and library, proved and built where that is not done yet.
-# SESSION, SVCD_LIB and BENCH_HOST_LIB name others, to try the tests themselves.
+# Sourced by the tests and by ./session, at the top of the repository: the proved program and library, proved and built where that is not
+# done yet. SESSION, SVCD_LIB and BENCH_HOST_LIB name others, to try the tests themselves.
 
 # Runs a command, and shows what it wrote only where it fails.
 quietly() {
@@ -10,26 +10,57 @@ quietly() {
     fi
 }
 
+# The crate and all of the repository that it stands on, by crates.txt.
+needed() {
+    awk -v wanted="$1" '
+        !/^#/ && /:/ { name = $1; sub(/:$/, "", name); sub(/[^:]*:/, ""); stands_on[name] = $0 }
+        function visit(name,    k, n, below) {
+            if (seen[name]++ || !(name in stands_on)) return
+            print name
+            n = split(stands_on[name], below, " ")
+            for (k = 1; k <= n; k++) visit(below[k])
+        }
+        END { visit(wanted) }
+    ' crates.txt
+}
+
+# is_new FILE CRATE: whether the file is there, and newer than every file of the crate and of those that it stands on.
+is_new() {
+    local crate folders=(crates.txt)
+    [ -f "$1" ] || return 1
+    for crate in $(needed "$2"); do
+        for part in src specs proofs; do
+            [ ! -d "crates/$crate/$part" ] || folders+=("crates/$crate/$part")
+        done
+    done
+    [ -z "$(find "${folders[@]}" -newer "$1" -print -quit)" ]
+}
+
+# The program `session` as `rt ci` and `rt run` leave it. Where it is not there or not new, `rt run` proves and builds it, and runs it on nothing.
+built_program=$PWD/crates/session/out/session
+build_program() {
+    (cd crates/session && exec rt run < /dev/null)
+}
+
 # Sets `program` to the program `session`.
 find_program() {
     program=${SESSION:-}
     if [ -z "$program" ]; then
-        quietly rt check session
-        program=$PWD/target/bin/session
+        is_new "$built_program" session || quietly build_program
+        program=$built_program
     fi
 }
 
-# find_library [CRATE]: sets `library` to the folder of the library of the crate, libsvcd.a without one. A library that is newer than every
-# file of the crates is the one that `rt staticlib` would write.
+# find_library [NAME]: sets `library` to the folder of the library libNAME.a, libsvcd.a without a name. Crate svcd_c exports what libsvcd.a has.
 find_library() {
-    local crate=${1:-svcd}
-    local named=${crate^^}_LIB
+    local name=${1:-svcd} crate
+    local named=${name^^}_LIB
+    crate=$name
+    [ ! -d "crates/${name}_c" ] || crate=${name}_c
     library=${!named:-}
     if [ -z "$library" ]; then
         library=$PWD/target/staticlib
-        if [ ! -f "$library/lib$crate.a" ] || [ -n "$(find crates crates.txt -newer "$library/lib$crate.a" -print -quit)" ]; then
-            quietly rt staticlib "$crate"
-        fi
+        is_new "$library/lib$name.a" "$crate" || quietly tests/static-library "$crate"
     fi
 }
 

@@ -35,7 +35,8 @@ echo 0,22 > "$folder/million.listing"
 check "a million bytes" prints "$folder/million.listing" "$folder/million.txt" "$program"
 
 # The script at the top, as the README calls it: on a file and on standard input, silent where nothing is to be done. What it says while
-# crates are proved, and where one is not, is tried with an `rt` that only writes such lines.
+# crates are proved, and where one is not, is tried in a folder where the program is older than crates.txt, with an `rt` that only writes
+# such lines.
 if [ -z "${SESSION:-}" ]; then
     lists() {
         ./session "$1" 2> "$folder/said" | cmp -s - "${1%.txt}.listing" && [ ! -s "$folder/said" ]
@@ -43,21 +44,26 @@ if [ -z "${SESSION:-}" ]; then
     check "./session FILE" lists examples/teaching.txt
     check "./session < FILE" prints examples/teaching.listing examples/teaching.txt ./session
 
-    mkdir "$folder/bin"
+    older=$folder/older
+    mkdir -p "$folder/bin" "$older/tests" "$older/crates/session/out"
+    cp session crates.txt "$older"
+    cp tests/built.bash "$older/tests"
+    cp "$program" "$older/crates/session/out"
+    touch -d '2000-01-01' "$older/crates/session/out/session"
     stands_for_rt() {
-        printf '#!/bin/sh\nprintf "%%s\\n" "rt: sets proved (unchanged since it was last proved)" "rt: model %s"\nexit %s\n' "$1" "$2" > "$folder/bin/rt"
+        printf '#!/bin/sh\nprintf "%%s\\n" "rt: chose --jobs 2 for sets" "rt: chose --jobs 2 for model" "%s" >&2\nexit %s\n' "$1" "$2" > "$folder/bin/rt"
         chmod +x "$folder/bin/rt"
     }
     says_how_far() {
-        stands_for_rt "proved (3 s)" 0
-        PATH=$folder/bin:$PATH ./session examples/teaching.txt 2> "$folder/said" | cmp -s - examples/teaching.listing &&
-            grep -qE '^session: 2 of [0-9]+ crates proved: model \(3 s\)$' "$folder/said" && ! grep -q sets "$folder/said"
+        stands_for_rt "rt: running out/session" 0
+        PATH=$folder/bin:$PATH "$older/session" < examples/teaching.txt 2> "$folder/said" | cmp -s - examples/teaching.listing &&
+            grep -qE '^session: proving model, crate 2 of at most [0-9]+$' "$folder/said" && ! grep -q '^rt: ' "$folder/said"
     }
     check "./session: how many crates are proved" says_how_far
     says_what_failed() {
-        stands_for_rt "NOT PROVED (exit 1, 3 s)" 1
-        ! PATH=$folder/bin:$PATH ./session examples/teaching.txt > "$folder/listed" 2> "$folder/said" &&
-            [ ! -s "$folder/listed" ] && grep -q '^rt: model NOT PROVED' "$folder/said"
+        stands_for_rt "rt: the library model did not build" 1
+        ! PATH=$folder/bin:$PATH "$older/session" < examples/teaching.txt > "$folder/listed" 2> "$folder/said" &&
+            [ ! -s "$folder/listed" ] && grep -q '^rt: the library model did not build' "$folder/said"
     }
     check "./session: a crate that is not proved" says_what_failed
 fi

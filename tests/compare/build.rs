@@ -1,4 +1,5 @@
-//! Links the static library of crate `svcd`, which `rt staticlib svcd` writes. SVCD_LIB names another folder with a libsvcd.a in it.
+//! Links the static library of crate `svcd_c`, which `tests/static-library svcd_c` writes. SVCD_LIB names another folder with a libsvcd.a in
+//! it.
 
 fn main() {
     let here = std::env::var("CARGO_MANIFEST_DIR").expect("cargo says where the package is");

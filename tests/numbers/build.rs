@@ -1,4 +1,4 @@
-//! Links the static library of crate `bench_host`, which `rt staticlib bench_host` writes. BENCH_HOST_LIB names another folder with a
+//! Links the static library of crate `bench_host`, which `tests/static-library bench_host` writes. BENCH_HOST_LIB names another folder with a
 //! libbench_host.a in it.
 
 fn main() {

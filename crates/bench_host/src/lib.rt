@@ -1,5 +1,7 @@
 // The test for 25, the ten calls, the queries and the parts list for a host in C or Rust, which lends the two arrays of a Book. The test in
 // tests/numbers and the benchmark in bench/ link them.
+#![tactic(auto)]
+
 ghost use Rattle.std.specs.Prelude.{◌≡◌, length};
 ghost use Rattle.bench_host.specs.Asked.{asked_by};
 ghost use Rattle.book_rules.specs.Test as test;

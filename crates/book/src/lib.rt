@@ -11,7 +11,7 @@ ghost use Rattle.model.specs.Book as model;
 ghost use Rattle.book.specs.Plain.{plain_of, place_of, byte, proper};
 ghost use Rattle.book.specs.Plain as plain;
 
-#[derive(Drop)]
+#[derive(Clone, Copy)]
 pub struct Book {
     pub sets: [u64; 576],
     pub numbers: [u8; 8768],

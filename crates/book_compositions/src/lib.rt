@@ -1,4 +1,6 @@
 // B5 to B9 of one composition.
+#![tactic(auto)]
+
 ghost use Rattle.std.specs.Prelude.{◌≡◌, true, ◌<◌};
 ghost use Rattle.sets.specs.Tests.{all};
 ghost use Rattle.sets.specs.Sets.{bit};

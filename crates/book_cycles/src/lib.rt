@@ -1,4 +1,6 @@
 // B4: no system reaches itself through usable components.
+#![tactic(auto)]
+
 ghost use Rattle.std.specs.Prelude.{◌≡◌, ℕ, ◌<◌, ◌+◌, get_or, List};
 ghost use Rattle.sets.specs.Sets.{bit};
 ghost use Rattle.model.specs.Rules.{B4};

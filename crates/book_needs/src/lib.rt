@@ -1,4 +1,6 @@
 // The needs of a version (document 01, "What a book holds"): "the needs of a system version are the union of its members' needs".
+#![tactic(auto)]
+
 ghost use Rattle.std.specs.Prelude.{◌≡◌, ◌<◌};
 ghost use Rattle.sets.specs.Sets.{bit};
 ghost use Rattle.model.specs.Rules as model;

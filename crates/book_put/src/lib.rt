@@ -1,5 +1,7 @@
 // What the adding commands put into a Book: a specification, a definition, a version. Each leaves a Book that holds exactly the changed plain
 // book (`Holds` of crate book).
+#![tactic(auto)]
+
 ghost use Rattle.std.specs.Prelude.{◌≡◌, true, false, ℕ, ◌<◌, ◌≤◌, ◌^◌, get_or};
 ghost use Rattle.sets.specs.Sets.{bit};
 ghost use Rattle.sets.specs.Tests.{count};

@@ -1,5 +1,7 @@
 // The rules B1 to B3 of a Book, and what the crates above ask of its components. Each function says of the plain book that the two arrays
 // mean what `model` defines. The table of needs and the test for 25 are defined here too (specs/Table.antt, specs/Test.antt).
+#![tactic(auto)]
+
 ghost use Rattle.std.specs.Prelude.{◌≡◌, ◌<◌};
 ghost use Rattle.sets.specs.Tests.{all};
 ghost use Rattle.sets.specs.Sets.{bit, union_below};

@@ -1,5 +1,7 @@
 // What the deletions take out of a Book: a specification, a definition, a version. Each leaves a Book that holds exactly the changed plain
 // book (`Holds` of crate book).
+#![tactic(auto)]
+
 ghost use Rattle.std.specs.Prelude.{◌≡◌, true, ◌<◌};
 ghost use Rattle.model.specs.Book as model;
 ghost use Rattle.model.specs.Commands.{after, DEL-SPEC, DEL-MOD, DEL-SYS, DEL-MODVAR, DEL-SYSVAR};

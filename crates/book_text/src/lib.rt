@@ -1,4 +1,6 @@
 // The text of a Book with tables handed in, as a call.
+#![tactic(auto)]
+
 ghost use Rattle.names_test.specs.Answered.{TextCall};
 
 use book::Book;

@@ -1,5 +1,7 @@
 // The five adding commands, on a Book that is known to pass the test for 25. What is gathered of a command's lists goes in, and the call
 // answers for every command of which that is gathered.
+#![tactic(auto)]
+
 ghost use Rattle.std.specs.Prelude.{◌≡◌, true, List, ℕ};
 ghost use Rattle.sets.specs.Sets.{bit};
 ghost use Rattle.book_rules.specs.Test as test;

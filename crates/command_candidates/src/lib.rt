@@ -1,5 +1,7 @@
 // The Book as it would be after ADD-SYS and ADD-SYSVAR, made in the two arrays that are lent: the last questions of the two commands are put
 // to it.
+#![tactic(auto)]
+
 ghost use Rattle.std.specs.Prelude.{◌≡◌, true, List, ℕ, ◌<◌};
 ghost use Rattle.sets.specs.Sets.{bit};
 ghost use Rattle.model.specs.Commands.{Members};

@@ -1,4 +1,6 @@
 // The five commands that take out, on a Book that is known to pass the test for 25.
+#![tactic(auto)]
+
 ghost use Rattle.std.specs.Prelude.{◌≡◌, true, ◌<◌};
 ghost use Rattle.book.specs.Plain.{plain_of};
 ghost use Rattle.book_rules.specs.Test as test;

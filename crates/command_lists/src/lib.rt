@@ -1,5 +1,7 @@
 // What the five adding commands ask for: each list of a command gathered entry by entry into sets and arrays indexed by number, with
 // flags. The slices of a call and the reader of a text meet here.
+#![tactic(auto)]
+
 ghost use Rattle.std.specs.Prelude.{◌≡◌, true, List, ℕ, ◌<◌, ◌≤◌};
 ghost use Rattle.sets.specs.Sets.{bit};
 ghost use Rattle.model.specs.Book.{facilities, versions};
@@ -12,7 +14,7 @@ ghost use Rattle.command_lists.specs.Said.{version_said};
 ghost use Rattle.command_lists.specs.Views.{sets_view, numbers_view, composition_view, compositions_view, usable_view, mark_said, row_written};
 
 // Versions with the facilities that each requires.
-#[derive(Drop)]
+#[derive(Clone, Copy)]
 pub struct Sets {
     pub large: bool,
     pub twice: bool,
@@ -21,7 +23,7 @@ pub struct Sets {
 }
 
 // Versions with their implementations.
-#[derive(Drop)]
+#[derive(Clone, Copy)]
 pub struct Numbers {
     pub large: bool,
     pub twice: bool,
@@ -30,7 +32,7 @@ pub struct Numbers {
 }
 
 // Members with their versions: 64 where the version is left out.
-#[derive(Drop)]
+#[derive(Clone, Copy)]
 pub struct Composition {
     pub large: bool,
     pub twice: bool,
@@ -39,7 +41,7 @@ pub struct Composition {
 }
 
 // Versions with their compositions: the members at the version, their versions in its row of 32.
-#[derive(Drop)]
+#[derive(Clone, Copy)]
 pub struct Compositions {
     pub large: bool,
     pub empty: bool,
@@ -50,7 +52,7 @@ pub struct Compositions {
 }
 
 // Usable components.
-#[derive(Drop)]
+#[derive(Clone, Copy)]
 pub struct Usable {
     pub large: bool,
     pub twice: bool,

@@ -1,4 +1,6 @@
 // The questions that are put to the adding commands, of what is gathered of their lists: the number at the first no, 0 without one.
+#![tactic(auto)]
+
 ghost use Rattle.std.specs.Prelude.{◌≡◌, ◌<◌};
 ghost use Rattle.model.specs.Book as model;
 ghost use Rattle.model.specs.Questions.{first_no};

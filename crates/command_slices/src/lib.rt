@@ -1,4 +1,6 @@
 // The lists of a call gathered from its slices (command_lists/specs/Said.antt says what slices say).
+#![tactic(auto)]
+
 ghost use Rattle.std.specs.Prelude.{◌≡◌, [], ◌≤◌, ◌-◌, length, take, drop};
 ghost use Rattle.model.specs.Book.{versions};
 ghost use Rattle.command_lists.specs.Said.{sets_of, numbers_of, members_of, compositions_step, compositions_of, usable_of};

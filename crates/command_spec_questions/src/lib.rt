@@ -1,4 +1,6 @@
 // The questions that are put to ADD-SPEC, in their order.
+#![tactic(auto)]
+
 ghost use Rattle.std.specs.Prelude.{◌≡◌};
 ghost use Rattle.sets.specs.Sets.{bit, disjoint};
 ghost use Rattle.sets.specs.Tests.{all, ◌⇒◌};

@@ -1,4 +1,6 @@
 // The questions that are put to ADD-MODVAR and ADD-SYSVAR, in their order.
+#![tactic(auto)]
+
 ghost use Rattle.std.specs.Prelude.{◌≡◌, ◌<◌};
 ghost use Rattle.sets.specs.Sets.{bit};
 ghost use Rattle.sets.specs.Tests.{◌<?◌};

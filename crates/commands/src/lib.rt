@@ -1,5 +1,7 @@
 // The ten commands as calls on a Book (document 01, "The ten commands"). Each tests for 25 and then does what the function of its
 // name with `_in` does (command_add, command_delete). What a call gives and leaves is `Called` (command_outcome).
+#![tactic(auto)]
+
 ghost use Rattle.model.specs.Commands.{DEL-SPEC, DEL-MOD, DEL-SYS, DEL-MODVAR, DEL-SYSVAR};
 ghost use Rattle.command_outcome.specs.Outcome.{Called};
 ghost use Rattle.command_outcome.specs.Calls.{command_of, add_spec, add_mod, add_sys, add_modvar, add_sysvar};
@@ -7,7 +9,7 @@ ghost use Rattle.command_outcome.specs.Calls.{command_of, add_spec, add_mod, add
 use book::Book;
 
 // What a command gives back: its answer, 0 where it is accepted, and the Book.
-#[derive(Drop)]
+#[derive(Clone, Copy)]
 pub struct Outcome {
     pub answer: u8,
     pub book: Book,

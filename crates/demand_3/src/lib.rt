@@ -1,4 +1,6 @@
 // The ten calls and the parts list as demand 3 speaks of them: each promises here what its own contract gives, and no more.
+#![tactic(auto)]
+
 ghost use Rattle.std.specs.Prelude.{◌≡◌, true};
 ghost use Rattle.book.specs.Plain.{plain_of};
 ghost use Rattle.model.specs.Book as model;

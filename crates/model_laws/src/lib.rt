@@ -1,1 +1,2 @@
 // Theorems about the definitions of `model` alone: see specs/.
+#![tactic(auto)]

@@ -1,5 +1,7 @@
 // A table of names of any number of places, as one slice of bytes: 33 bytes for each place, the length of its name and then the
 // name. What it means is `table_of` (specs/Stored.antt).
+#![tactic(auto)]
+
 ghost use Rattle.std.specs.Prelude.{◌≡◌, true, ◌++◌, ◌∷◌, [], ◌<◌, ◌*◌, length};
 ghost use Rattle.std.proofs.Math.Option.{none};
 ghost use Rattle.sets.specs.Tests.{~◌};
@@ -13,7 +15,7 @@ ghost use Rattle.names.specs.Stored.{name_in, table_of, tables_of, lowest_free, 
 const WIDTH: usize = 33;
 
 // The four tables: 32 components, 64 versions, 64 facilities, 256 implementations.
-#[derive(Drop)]
+#[derive(Clone, Copy)]
 pub struct Names {
     pub comps: [u8; 1056],
     pub vers: [u8; 2112],
@@ -22,7 +24,7 @@ pub struct Names {
 }
 
 // A place of a table, or none.
-#[derive(Drop)]
+#[derive(Clone, Copy)]
 pub enum Found {
     At(usize),
     Nothing,
@@ -108,7 +110,7 @@ fn put(names: &mut [u8], places: usize, k: usize, word: &[u8])
 {
     let a = k * WIDTH;
     let b = a + 1;
-    bytes::copy(word, &mut names[b..]);
+    seqs::copy(word, &mut names[b..]);
     names[a] = word.len() as u8;
 }
 

@@ -1,5 +1,7 @@
 // The test of tables that are handed in with a Book (document 01, the question for 25): "For text also: do the tables hand in one valid name
 // for each number in the book, no name twice in a table?"
+#![tactic(auto)]
+
 ghost use Rattle.std.specs.Prelude.{◌≡◌, true, ◌*◌, ◌<◌, length};
 ghost use Rattle.sets.specs.Sets.{bit};
 ghost use Rattle.sets.specs.Tests.{all};
@@ -247,7 +249,7 @@ pub fn names_hold<'a>(
 // ---- what the call on them answers (crate book_text)
 
 // The answer, and how many bytes were written.
-#[derive(Drop)]
+#[derive(Clone, Copy)]
 pub struct Text {
     pub answer: usize,
     pub len: usize,

@@ -1,4 +1,6 @@
 // The parts list of a stored version as a call, its rows written into a lent slice (document 01, "The parts list").
+#![tactic(auto)]
+
 ghost use Rattle.std.specs.Prelude.{◌≡◌, true, ◌+◌, ◌≤◌, ◌<◌, take, length};
 ghost use Rattle.model.specs.PartsList.{how_many_systems, first_pair};
 ghost use Rattle.seqs.specs.Filled.{filled};
@@ -194,7 +196,7 @@ fn rows_of<'a>(sets: &'a [u64; 576], numbers: &'a [u8; 8768], c: usize, v: usize
 }
 
 // What the call gives back: its answer, 0 where the list is in the slice, how many rows it has, and a depth.
-#[derive(Drop)]
+#[derive(Clone, Copy)]
 pub struct PartsList {
     pub answer: u8,
     pub rows: usize,

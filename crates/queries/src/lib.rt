@@ -1,5 +1,7 @@
 // The seven queries as calls on a Book (document 01, "Queries"). Each tests for 25 and then does what the function of its name with
 // `_in` does (query_replies, query_sets, query_choice).
+#![tactic(auto)]
+
 ghost use Rattle.std.specs.Prelude.{length};
 ghost use Rattle.model.specs.Queries.{SUPPLIES, NEEDS, CHOICE, STANDARD, UNDEFINED, UNUSED, WHEREUSED, the_version};
 ghost use Rattle.query_replies.specs.Replied.{Replied, replied_to, numbers_in, facilities_in, components_in};

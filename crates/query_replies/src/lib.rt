@@ -1,5 +1,7 @@
 // SUPPLIES, NEEDS and STANDARD on a Book that is known to pass the test for 25. What a reply means is specs/Replied.antt and
 // specs/Listed.antt.
+#![tactic(auto)]
+
 ghost use Rattle.std.specs.Prelude.{◌≡◌, true};
 ghost use Rattle.book.specs.Plain.{plain_of};
 ghost use Rattle.book_rules.specs.Test as test;
@@ -8,28 +10,28 @@ ghost use Rattle.model.specs.Queries.{SUPPLIES, NEEDS, STANDARD, the_version};
 ghost use Rattle.query_replies.specs.Replied.{Replied, replied_to, of_component, of_pair, facilities_in};
 
 // What a query for facilities gives back: its answer, 0 where it is accepted, and the facilities found.
-#[derive(Drop)]
+#[derive(Clone, Copy)]
 pub struct Facilities {
     pub answer: u8,
     pub set: u64,
 }
 
 // The same of components.
-#[derive(Drop)]
+#[derive(Clone, Copy)]
 pub struct Components {
     pub answer: u8,
     pub set: u64,
 }
 
 // The same of one version.
-#[derive(Drop)]
+#[derive(Clone, Copy)]
 pub struct Version {
     pub answer: u8,
     pub version: usize,
 }
 
 // The same of pairs: how many rows were written into the lent slice.
-#[derive(Drop)]
+#[derive(Clone, Copy)]
 pub struct Pairs {
     pub answer: u8,
     pub rows: usize,

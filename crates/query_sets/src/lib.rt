@@ -1,4 +1,6 @@
 // UNDEFINED, UNUSED and WHEREUSED on a Book that is known to pass the test for 25.
+#![tactic(auto)]
+
 ghost use Rattle.std.specs.Prelude.{◌≡◌, true, List, ℕ, ◌<◌, get_or};
 ghost use Rattle.sets.specs.Sets.{bit};
 ghost use Rattle.book_cycles.specs.Closure.{Rows};

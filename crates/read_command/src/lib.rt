@@ -1,4 +1,6 @@
 // A command by its first word, as one datum; the names of deletions and queries.
+#![tactic(auto)]
+
 ghost use Rattle.std.specs.Prelude.{◌≡◌, true, ◌<◌, ◌≤◌, length};
 ghost use Rattle.text.specs.Bytes.{keywords, short};
 ghost use Rattle.names.specs.Stored.{answered, table_of};
@@ -19,7 +21,7 @@ use read_tokens::Part;
 // ---- a command
 
 // What delspec, delmod and delsys take out of a component.
-#[derive(Drop)]
+#[derive(Clone, Copy)]
 pub enum Component {
     Spec,
     Module,
@@ -27,14 +29,14 @@ pub enum Component {
 }
 
 // Of what delmodvar and delsysvar take out a version.
-#[derive(Drop)]
+#[derive(Clone, Copy)]
 pub enum Version {
     Module,
     System,
 }
 
 // The ten commands.
-#[derive(Drop)]
+#[derive(Clone, Copy)]
 pub enum Command {
     AddSpec,
     AddMod,
@@ -46,7 +48,7 @@ pub enum Command {
 }
 
 // The queries of a component.
-#[derive(Drop)]
+#[derive(Clone, Copy)]
 pub enum OfComponent {
     Supplies,
     Standard,
@@ -54,21 +56,21 @@ pub enum OfComponent {
 }
 
 // The queries of a version.
-#[derive(Drop)]
+#[derive(Clone, Copy)]
 pub enum OfVersion {
     Needs,
     Parts,
 }
 
 // The queries that name a component, or a component and a version.
-#[derive(Drop)]
+#[derive(Clone, Copy)]
 pub enum Named {
     One(OfComponent),
     Pair(OfVersion),
 }
 
 // The queries of the whole book; "out" is for its text.
-#[derive(Drop)]
+#[derive(Clone, Copy)]
 pub enum OfBook {
     Undefined,
     Unused,
@@ -76,7 +78,7 @@ pub enum OfBook {
 }
 
 // The queries, and "out".
-#[derive(Drop)]
+#[derive(Clone, Copy)]
 pub enum Query {
     ByName(Named),
     Choice,
@@ -85,7 +87,7 @@ pub enum Query {
 
 // What the first word of a command begins: a command or a query. Over: it is "quit", or the text is at its end. Nothing: what stands there
 // is not of the language.
-#[derive(Drop)]
+#[derive(Clone, Copy)]
 pub enum Form {
     Changes(Command),
     Asks(Query),
@@ -94,7 +96,7 @@ pub enum Form {
 }
 
 // The first word of a command: what it begins, and the position behind it.
-#[derive(Drop)]
+#[derive(Clone, Copy)]
 pub struct FirstWord {
     pub form: Form,
     pub end: usize,
@@ -184,7 +186,7 @@ pub fn read_command(text: &[u8], at: usize) -> FirstWord
 // ---- deletions and queries: the names are parts of the text
 
 // A component and a version, if `there`: the parts of the text that are their names.
-#[derive(Drop)]
+#[derive(Clone, Copy)]
 pub struct Parts {
     pub there: bool,
     pub start: usize,
@@ -194,7 +196,7 @@ pub struct Parts {
 }
 
 // Facilities that were looked up, if `there`: the set of their numbers, if each has one (`known`).
-#[derive(Drop)]
+#[derive(Clone, Copy)]
 pub struct Known {
     pub there: bool,
     pub end: usize,

@@ -1,4 +1,6 @@
 // Names of an adding command, put into their tables as they are read; sets of facilities.
+#![tactic(auto)]
+
 ghost use Rattle.std.specs.Prelude.{◌≡◌, true, ◌≤◌, length};
 ghost use Rattle.text.specs.Bytes.{short};
 ghost use Rattle.names.specs.Stored.{table_of};

@@ -1,4 +1,6 @@
 // The command `spec` read from behind its first word, and what it asks for collected on the way.
+#![tactic(auto)]
+
 ghost use Rattle.std.specs.Prelude.{◌≡◌, false, List, ℕ, ◌≤◌, length};
 ghost use Rattle.names.specs.Stored.{table_of, tables_of};
 ghost use Rattle.read_tokens.specs.Requested.{SpecAsked, SpecMade};

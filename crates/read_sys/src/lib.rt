@@ -1,4 +1,6 @@
 // The commands `sys` and `sysvar` read from behind their first word, and what they ask for collected on the way.
+#![tactic(auto)]
+
 ghost use Rattle.std.specs.Prelude.{◌≡◌, false, List, ℕ, ◌≤◌, length};
 ghost use Rattle.names.specs.Stored.{table_of, tables_of};
 ghost use Rattle.read_tokens.specs.Requested.{SysvarAsked, SysvarMade, SysAsked, SysMade};

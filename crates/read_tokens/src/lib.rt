@@ -1,5 +1,7 @@
 // The tokens of a command read from a position of a text: a keyword, a mark, a name, an implementation. What an answer means is
 // specs/Readers.antt; what the readers of commands in the crates above collect is said beside it.
+#![tactic(auto)]
+
 ghost use Rattle.std.specs.Prelude.{◌≡◌, ◌+◌, ◌<◌, ◌≤◌, length};
 ghost use Rattle.text.specs.Bytes.{keywords, same};
 ghost use Rattle.text.specs.Tables.{name_at};
@@ -9,7 +11,7 @@ ghost use Rattle.words.specs.Keywords.{keyword_count};
 ghost use Rattle.read_tokens.specs.Readers.{Answers, Any, Got, PartOf, Told, key_at};
 
 // A part of the text that is of the kind asked for, if `there`.
-#[derive(Drop)]
+#[derive(Clone, Copy)]
 pub struct Part {
     pub there: bool,
     pub start: usize,
@@ -17,7 +19,7 @@ pub struct Part {
 }
 
 // A mark or a keyword that was asked for, and the position behind it.
-#[derive(Drop)]
+#[derive(Clone, Copy)]
 pub struct Step {
     pub there: bool,
     pub end: usize,
@@ -205,14 +207,14 @@ pub fn read_name(text: &[u8], at: usize) -> Part
 // ---- what is collected: names put into a table
 
 // The place of a name in its table, or 0 where there was no room for it.
-#[derive(Drop)]
+#[derive(Clone, Copy)]
 pub struct Entry {
     pub number: usize,
     pub room: bool,
 }
 
 // A name that was read and put into its table, if `there`: the position behind it and its place.
-#[derive(Drop)]
+#[derive(Clone, Copy)]
 pub struct Taken {
     pub there: bool,
     pub end: usize,
@@ -223,7 +225,7 @@ pub struct Taken {
 // ---- facilities
 
 // Facilities that were read, if `there`: the position behind them, the set with their numbers, and whether there was room.
-#[derive(Drop)]
+#[derive(Clone, Copy)]
 pub struct Facilities {
     pub there: bool,
     pub end: usize,
@@ -235,7 +237,7 @@ pub struct Facilities {
 
 // Versions with the facilities that each requires, if `there`; whether one, and another, carries "std", and which; and
 // whether there was room for the names of versions (`vers`) and of facilities (`facs`).
-#[derive(Drop)]
+#[derive(Clone, Copy)]
 pub struct SpecVersions {
     pub there: bool,
     pub end: usize,
@@ -248,7 +250,7 @@ pub struct SpecVersions {
 }
 
 // What "spec" asks for, if it is of the language (`there`): by the numbers in the tables with its new names, if there was room for them.
-#[derive(Drop)]
+#[derive(Clone, Copy)]
 pub struct SpecRequest {
     pub there: bool,
     pub end: usize,
@@ -263,7 +265,7 @@ pub struct SpecRequest {
 
 // Versions with their implementations, if `there`, and whether there was room for the names of versions (`vers`) and for the
 // implementations (`impls`).
-#[derive(Drop)]
+#[derive(Clone, Copy)]
 pub struct ModVersions {
     pub there: bool,
     pub end: usize,
@@ -273,7 +275,7 @@ pub struct ModVersions {
 }
 
 // What "mod" asks for.
-#[derive(Drop)]
+#[derive(Clone, Copy)]
 pub struct ModRequest {
     pub there: bool,
     pub end: usize,
@@ -285,7 +287,7 @@ pub struct ModRequest {
 // ---- a component with a version
 
 // A component and a version, if `there`: their numbers, and whether there was room for each.
-#[derive(Drop)]
+#[derive(Clone, Copy)]
 pub struct PairTaken {
     pub there: bool,
     pub end: usize,
@@ -296,7 +298,7 @@ pub struct PairTaken {
 }
 
 // What "modvar" asks for.
-#[derive(Drop)]
+#[derive(Clone, Copy)]
 pub struct ModvarRequest {
     pub there: bool,
     pub end: usize,
@@ -310,7 +312,7 @@ pub struct ModvarRequest {
 // ---- a composition
 
 // Members, if `there`, and whether there was room for the names of components (`comps`) and of versions (`vers`).
-#[derive(Drop)]
+#[derive(Clone, Copy)]
 pub struct Members {
     pub there: bool,
     pub end: usize,
@@ -320,7 +322,7 @@ pub struct Members {
 }
 
 // What "sysvar" asks for.
-#[derive(Drop)]
+#[derive(Clone, Copy)]
 pub struct SysvarRequest {
     pub there: bool,
     pub end: usize,
@@ -333,7 +335,7 @@ pub struct SysvarRequest {
 // ---- a system
 
 // Usable components, if `there`, and whether there was room for their names.
-#[derive(Drop)]
+#[derive(Clone, Copy)]
 pub struct UsableNames {
     pub there: bool,
     pub end: usize,
@@ -343,7 +345,7 @@ pub struct UsableNames {
 
 // Versions with their compositions, if `there`, and whether there was room for the names of components (`comps`) and of versions
 // (`vers`).
-#[derive(Drop)]
+#[derive(Clone, Copy)]
 pub struct SysVersions {
     pub there: bool,
     pub end: usize,
@@ -353,7 +355,7 @@ pub struct SysVersions {
 }
 
 // What "sys" asks for.
-#[derive(Drop)]
+#[derive(Clone, Copy)]
 pub struct SysRequest {
     pub there: bool,
     pub end: usize,

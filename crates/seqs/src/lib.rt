@@ -1,5 +1,8 @@
-// Byte slices compared and cleared.
-ghost use Rattle.std.specs.Prelude.{◌≡◌, length, replicate};
+// Byte slices compared, cleared and copied.
+#![tactic(auto)]
+
+ghost use Rattle.std.specs.Prelude.{◌≡◌, ◌≤◌, length, replicate};
+ghost use Rattle.seqs.specs.Filled.{filled};
 ghost use Rattle.text.specs.Bytes as text;
 
 // Whether the two slices hold the same bytes.
@@ -28,4 +31,12 @@ pub fn clear(out: &mut [u8])
         out[i] = 0;
         i += 1;
     }
+}
+
+// A word at the start of the slice, which keeps the bytes behind it.
+pub fn copy(word: &[u8], out: &mut [u8])
+    requires { length word.now ≤ length out.old }
+    ensures { out.new ≡ filled word.now out.old }
+{
+    out[..word.len()].copy_from_slice(word);
 }

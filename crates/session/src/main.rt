@@ -1,7 +1,12 @@
 // The program `session`: the session of standard input, up to 65,536 bytes, its listing on standard output.
+#![tactic(auto)]
+
 ghost use Rattle.std.specs.Prelude.{◌≡◌, ◌≤◌, length, take};
 ghost use Rattle.text.specs.Bytes.{bytes};
 ghost use Rattle.text.specs.LentSlice.{prints, program_bytes};
+
+use std::io;
+use std::io::Write;
 
 // "up to 65,536 bytes, with a slice of that size"
 const PROGRAM_BYTES: usize = 65536;
@@ -12,7 +17,7 @@ fn put_22(out: &mut [u8]) -> usize
     ensures upper_bound { result ≤ length out.new }
     ensures out_after { take result out.new ≡ bytes "0,22\n" }
 {
-    bytes::copy(b"0,22\n", out);
+    seqs::copy(b"0,22\n", out);
     5
 }
 
@@ -33,10 +38,10 @@ fn print(text: &[u8], out: &mut [u8]) -> usize
 }
 
 // A byte more than the program takes tells a text that is too long.
-fn main() {
+fn main(rt: HostRuntime) -> io::Result<()> {
     let mut text = [0u8; 65537];
-    let n = io::read_full(0, &mut text);
+    let n = input::fill(&mut rt.stdin(), &mut text)?;
     let mut out = [0u8; 65536];
     let len = print(&text[..n], &mut out);
-    io::write_all(1, &out[..len]);
+    rt.stdout().write_all(&out[..len])
 }

@@ -1,5 +1,7 @@
 // The request of an adding command on the Book in a session's arrays: the answer, and the Book after it if it is accepted. What a text
 // question's no leaves.
+#![tactic(auto)]
+
 ghost use Rattle.std.specs.Prelude.{◌≡◌, true};
 ghost use Rattle.command_outcome.specs.Outcome.{Called};
 ghost use Rattle.read_tokens.specs.Requested.{ModAsks, ModvarAsks, SpecAsks, SysAsks, SysvarAsks};

@@ -1,5 +1,7 @@
 // The commands spec, mod and modvar of a session's text, each from behind its first word: its names are entered into copies of the tables
 // as they are read, and Book and tables are changed only if it is accepted. What an answer means is session_state/specs/Carried.antt.
+#![tactic(auto)]
+
 ghost use Rattle.std.specs.Prelude.{◌≤◌, length};
 ghost use Rattle.read_tokens.specs.Readers.{Answers};
 ghost use Rattle.session_state.specs.Carried.{Decides, Undecided};

@@ -1,5 +1,7 @@
 // The queries of the whole book in a session's text: choice, undefined, unused, and "out". Each is carried out, and its rows are put into
 // the rest of a lent slice.
+#![tactic(auto)]
+
 ghost use Rattle.std.specs.Prelude.{◌≡◌, true, List, ℕ, ◌≤◌, length};
 ghost use Rattle.sets.specs.Sets.{bit};
 ghost use Rattle.text.specs.Language.{CHOICE, Name, OUT, UNDEFINED, UNUSED, choice};

@@ -1,5 +1,7 @@
 // The queries of a component in a session's text: supplies, standard, whereused. Each is carried out, and its rows are put into the rest
 // of a lent slice.
+#![tactic(auto)]
+
 ghost use Rattle.std.specs.Prelude.{◌≡◌, true, ◌≤◌, length};
 ghost use Rattle.text.specs.Language.{of_one};
 ghost use Rattle.text.specs.Bytes.{short};

@@ -1,4 +1,6 @@
 // The queries of a version in a session's text: needs and parts. Each is carried out, and its rows are put into the rest of a lent slice.
+#![tactic(auto)]
+
 ghost use Rattle.std.specs.Prelude.{◌≡◌, true, ◌<◌, ◌≤◌, length};
 ghost use Rattle.sets.specs.Tests.{if◌then◌else◌};
 ghost use Rattle.text.specs.Language.{of_pair};

@@ -1,4 +1,6 @@
 // One of the ten commands, whose first word is read: its answer, and its change of book and tables.
+#![tactic(auto)]
+
 ghost use Rattle.std.specs.Prelude.{◌≤◌, length};
 ghost use Rattle.read_tokens.specs.Readers.{Answers};
 ghost use Rattle.session_state.specs.Carried.{Decides, Undecided};

@@ -1,4 +1,6 @@
 // The five commands of a session's text that take out, each read from behind its first word and carried out (specs/Removed.antt).
+#![tactic(auto)]
+
 ghost use Rattle.std.specs.Prelude.{◌≡◌, true, false, ◌*◌, ◌<◌, ◌≤◌, length};
 ghost use Rattle.book.specs.Plain.{plain_of};
 ghost use Rattle.command_outcome.specs.Outcome.{Called};

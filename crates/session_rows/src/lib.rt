@@ -1,5 +1,7 @@
 // The rows of a query put into the rest of a lent slice: numbers of a set, pairs (specs/Rows.antt). Which query is asked of the Book:
 // specs/Asked.antt.
+#![tactic(auto)]
+
 ghost use Rattle.std.specs.Prelude.{◌≡◌, [], ◌*◌, ◌<◌, ◌≤◌, length};
 ghost use Rattle.sets.specs.Sets.{bit};
 ghost use Rattle.sets.specs.Tests.{if◌then◌else◌};

@@ -1,5 +1,7 @@
 // A session as a loop of steps over its text, and the reader of a text (document 01, "Text and session"): "The reader carries the
 // text and its position together". The methods over the struct are thin; the functions below them take plain parameters.
+#![tactic(auto)]
+
 ghost use Rattle.std.specs.Prelude.{◌≡◌, ◌+◌, ◌≤◌, length, drop};
 ghost use Rattle.session_state.specs.State.{Ready, state_of};
 ghost use Rattle.text.specs.Session.{fresh};

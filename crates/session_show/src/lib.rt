@@ -1,4 +1,6 @@
 // A query, whose first word is read: its rows.
+#![tactic(auto)]
+
 ghost use Rattle.std.specs.Prelude.{◌≤◌, length};
 ghost use Rattle.read_command.specs.Forms.{named_reader, query_reader};
 ghost use Rattle.read_tokens.specs.Readers.{Answers};

@@ -1,8 +1,10 @@
 // What a session holds between two commands, and what carrying out one command is (specs/State.antt, specs/Carried.antt).
+#![tactic(auto)]
+
 use write_bytes::Room;
 
 // One of the ten commands that was read, if `there`: the position behind it, and its answer.
-#[derive(Drop)]
+#[derive(Clone, Copy)]
 pub struct Decision {
     pub there: bool,
     pub end: usize,
@@ -10,7 +12,7 @@ pub struct Decision {
 }
 
 // A query that was read, if `there`: the position behind it, and the room that its rows leave.
-#[derive(Drop)]
+#[derive(Clone, Copy)]
 pub struct Shown {
     pub there: bool,
     pub end: usize,

@@ -1,4 +1,6 @@
 // One step of a session: the next command of the text is read and carried out.
+#![tactic(auto)]
+
 ghost use Rattle.std.specs.Prelude.{false, ◌≡◌, ◌≤◌, length};
 ghost use Rattle.text.specs.Session.{decimal, row};
 ghost use Rattle.write_bytes.specs.Room.{Puts};
@@ -10,7 +12,7 @@ use read_command::{Command, Form, Query};
 use write_bytes::Room;
 
 // A step of a session: whether there is more, the position at which it goes on if there is, and the room that is left.
-#[derive(Drop)]
+#[derive(Clone, Copy)]
 pub struct Advance {
     pub more: bool,
     pub end: usize,

@@ -1,4 +1,6 @@
-// The session over a text and a lent slice (document 01, "Text and session"), and the function for a host in C.
+// The session over a text and a lent slice (document 01, "Text and session"), and the function that crate svcd_c exports for a host in C.
+#![tactic(auto)]
+
 ghost use Rattle.std.specs.Prelude.{◌≡◌};
 ghost use Rattle.session_state.specs.State.{Ready, state_of};
 ghost use Rattle.text.specs.Session.{fresh};
@@ -29,7 +31,7 @@ fn clear_state(
 }
 
 // The listing of a text at the start of a lent slice: whether it fits, and how many bytes it has.
-#[derive(Drop)]
+#[derive(Clone, Copy)]
 pub struct Listing {
     pub fits: bool,
     pub len: usize,
@@ -69,7 +71,7 @@ fn list(
 }
 
 // What a session gives back: 0 and the length of its listing, or 22 and 0; its book and tables as reached.
-#[derive(Drop)]
+#[derive(Clone, Copy)]
 pub struct SessionEnd {
     pub answer: usize,
     pub len: usize,
@@ -122,8 +124,7 @@ const MOST_BYTES: usize = 2147483647;
 const MINUS_22: i32 = -22;
 
 // The session for a host in C: the listing's length, or minus 22.
-#[unsafe(no_mangle)]
-pub extern "C" fn svcd_session(text: &[u8], out: &mut [u8]) -> i32
+pub fn svcd_session(text: &[u8], out: &mut [u8]) -> i32
     ensures value { result ≡ host_result out.old text.now }
     ensures out_after { out.new ≡ host_slice out.old text.now }
 {

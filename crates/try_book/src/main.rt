@@ -1,14 +1,26 @@
 // Builds the teaching book and a deep book, and prints what the test for 25 and the queries say of them and of Books that are no books.
-use book::Book;
+#![tactic(auto)]
 
-fn say(text: &[u8], n: u64) {
-    io::write_all(1, text);
-    io::print_decimal(1, n);
-    io::write_all(1, b"\n");
+use book::Book;
+use std::io::Write;
+
+// A write that fails is passed over.
+fn write_out(rt: &HostRuntime, text: &[u8]) {
+    let _ = rt.stdout().write_all(text);
 }
 
-fn say_row(text: &[u8], row: u16) {
-    say(text, row as u64);
+fn write_decimal(rt: &HostRuntime, n: u64) {
+    let _ = rt.print(n);
+}
+
+fn say(rt: &HostRuntime, text: &[u8], n: u64) {
+    write_out(rt, text);
+    write_decimal(rt, n);
+    write_out(rt, b"\n");
+}
+
+fn say_row(rt: &HostRuntime, text: &[u8], row: u16) {
+    say(rt, text, row as u64);
 }
 
 // Component c specified with the one version v, or the same Book where it can't be.
@@ -120,51 +132,51 @@ fn judged(b: Book) -> u64 {
 }
 
 // Books that are no books: tank's member probe is not there; a kind that no component has; an unspecified component made a system.
-fn damaged() {
+fn damaged(rt: &HostRuntime) {
     let mut robbed = teaching();
     robbed.numbers[0] = 0;
-    say(b"robbed of probe, test ", judged(robbed));
+    say(rt, b"robbed of probe, test ", judged(robbed));
     let mut strange = teaching();
     strange.numbers[4] = 200;
-    say(b"a kind that is none, test ", judged(strange));
+    say(rt, b"a kind that is none, test ", judged(strange));
     let mut made = teaching();
     made.numbers[5] = 3;
-    say(b"a system with no version, test ", judged(made));
+    say(rt, b"a system with no version, test ", judged(made));
 }
 
 // The rows that CHOICE of hold finds.
-fn choice(b: Book) {
+fn choice(rt: &HostRuntime, b: Book) {
     let mut rows: [u16; 3] = [0; 3];
     let found = queries::choice(b, 4, &mut rows);
-    say(b"choice of hold, rows ", found.rows as u64);
-    say_row(b"the first ", rows[0]);
-    say_row(b"the second ", rows[1]);
-    say_row(b"past them ", rows[2]);
+    say(rt, b"choice of hold, rows ", found.rows as u64);
+    say_row(rt, b"the first ", rows[0]);
+    say_row(rt, b"the second ", rows[1]);
+    say_row(rt, b"past them ", rows[2]);
 }
 
 // The queries, of a component and of the whole book; sets as numbers.
-fn queries_of(b: Book) {
+fn queries_of(rt: &HostRuntime, b: Book) {
     let supplied = queries::supplies(b, 3);
-    say(b"supplies of tank ", supplied.set);
+    say(rt, b"supplies of tank ", supplied.set);
     let needed = queries::needs(b, 3, 3);
-    say(b"needs of tank.a ", needed.set);
+    say(rt, b"needs of tank.a ", needed.set);
     let standard = queries::standard(b, 2);
-    say(b"standard of loop ", standard.version as u64);
+    say(rt, b"standard of loop ", standard.version as u64);
     let undefined = queries::undefined(b);
-    say(b"undefined ", undefined.set);
+    say(rt, b"undefined ", undefined.set);
     let unused = queries::unused(b);
-    say(b"unused ", unused.set);
+    say(rt, b"unused ", unused.set);
     let users = queries::whereused(b, 0);
-    say(b"whereused of probe ", users.set);
-    choice(b);
+    say(rt, b"whereused of probe ", users.set);
+    choice(rt, b);
 }
 
-fn main() {
-    say(b"empty book, test ", judged(book::fresh()));
-    say(b"teaching book, test ", judged(teaching()));
-    queries_of(teaching());
-    say(b"deep book, test ", judged(deep()));
+fn main(rt: HostRuntime) {
+    say(&rt, b"empty book, test ", judged(book::fresh()));
+    say(&rt, b"teaching book, test ", judged(teaching()));
+    queries_of(&rt, teaching());
+    say(&rt, b"deep book, test ", judged(deep()));
     let needed = queries::needs(deep(), 31, 0);
-    say(b"deep book, needs of the last system ", needed.set);
-    damaged();
+    say(&rt, b"deep book, needs of the last system ", needed.set);
+    damaged(&rt);
 }

@@ -20,10 +20,14 @@
 //     HEADING                   is printed, having no colon
 //
 // What is not of these forms is reported by a line.
+#![tactic(auto)]
+
 ghost use Rattle.std.specs.Prelude.{◌<◌, ◌≤◌, length};
 
 use book::Book;
 use commands::Outcome;
+use std::io;
+use std::io::Write;
 
 // The largest number of the type.
 const LAST: usize = 18446744073709551615;
@@ -44,8 +48,17 @@ const NUMBER: usize = 13;
 // No word of the table.
 const OTHER: usize = 14;
 
-fn report() {
-    io::write_all(1, b"a line that is not of the form\n");
+// A write that fails is passed over.
+fn write_out(rt: &HostRuntime, text: &[u8]) {
+    let _ = rt.stdout().write_all(text);
+}
+
+fn write_decimal(rt: &HostRuntime, n: u64) {
+    let _ = rt.print(n);
+}
+
+fn report(rt: &HostRuntime) {
+    write_out(rt, b"a line that is not of the form\n");
 }
 
 // ---- lists of numbers
@@ -62,19 +75,19 @@ struct Reading {
     before: usize,
 }
 
-fn digit(l: Reading, d: usize) -> Reading {
+fn digit(rt: &HostRuntime, l: Reading, d: usize) -> Reading {
     let mut l = l;
     if d > 9 {
-        report();
+        report(rt);
         return l;
     }
     if l.value > LAST / 10 {
-        report();
+        report(rt);
         return l;
     }
     let tens = l.value * 10;
     if d > LAST - tens {
-        report();
+        report(rt);
         return l;
     }
     l.value = tens + d;
@@ -82,7 +95,7 @@ fn digit(l: Reading, d: usize) -> Reading {
     l
 }
 
-fn end_of_number(l: Reading) -> Reading {
+fn end_of_number(rt: &HostRuntime, l: Reading) -> Reading {
     let mut l = l;
     if !l.inside {
         return l;
@@ -90,7 +103,7 @@ fn end_of_number(l: Reading) -> Reading {
     l.inside = false;
     let n = l.n;
     if n >= 16 {
-        report();
+        report(rt);
         return l;
     }
     let value = l.value;
@@ -111,25 +124,25 @@ fn end_of_list(l: Reading) -> Reading {
     l
 }
 
-fn read_byte(l: Reading, byte: u8) -> Reading {
+fn read_byte(rt: &HostRuntime, l: Reading, byte: u8) -> Reading {
     if byte == b';' {
-        return end_of_list(end_of_number(l));
+        return end_of_list(end_of_number(rt, l));
     }
     if l.before > 0 {
         return l;
     }
     if byte == b' ' {
-        return end_of_number(l);
+        return end_of_number(rt, l);
     }
     if byte < b'0' {
-        report();
+        report(rt);
         return l;
     }
-    digit(l, (byte - b'0') as usize)
+    digit(rt, l, (byte - b'0') as usize)
 }
 
 // List k of the arguments, from 0.
-fn list(args: &[u8], k: usize) -> Reading {
+fn list(rt: &HostRuntime, args: &[u8], k: usize) -> Reading {
     let mut l = Reading {
         items: [0; 16],
         sets: [0; 16],
@@ -140,17 +153,17 @@ fn list(args: &[u8], k: usize) -> Reading {
     };
     let mut i = 0;
     while i < args.len() {
-        l = read_byte(l, args[i]);
+        l = read_byte(rt, l, args[i]);
         i += 1;
     }
-    end_of_number(l)
+    end_of_number(rt, l)
 }
 
 // The number that list k consists of.
-fn number(args: &[u8], k: usize) -> usize {
-    let l = list(args, k);
+fn number(rt: &HostRuntime, args: &[u8], k: usize) -> usize {
+    let l = list(rt, args, k);
     if l.n != 1 {
-        report();
+        report(rt);
     }
     l.items[0]
 }
@@ -166,33 +179,33 @@ fn lent_sets<'a>(sets: &'a [u64], n: usize) -> &'a [u64] {
 
 // ---- the calls
 
-fn add_spec(b: Book, args: &[u8]) -> Outcome {
-    let c = number(args, 0);
-    let provided = number(args, 1) as u64;
-    let versions = list(args, 2);
-    let required = list(args, 3);
-    let standard = number(args, 4);
+fn add_spec(rt: &HostRuntime, b: Book, args: &[u8]) -> Outcome {
+    let c = number(rt, args, 0);
+    let provided = number(rt, args, 1) as u64;
+    let versions = list(rt, args, 2);
+    let required = list(rt, args, 3);
+    let standard = number(rt, args, 4);
     let v = lent(&versions.items, versions.n);
     let r = lent_sets(&required.sets, required.n);
     commands::add_spec(b, c, provided, v, r, standard)
 }
 
-fn add_mod(b: Book, args: &[u8]) -> Outcome {
-    let c = number(args, 0);
-    let versions = list(args, 1);
-    let implementations = list(args, 2);
+fn add_mod(rt: &HostRuntime, b: Book, args: &[u8]) -> Outcome {
+    let c = number(rt, args, 0);
+    let versions = list(rt, args, 1);
+    let implementations = list(rt, args, 2);
     let v = lent(&versions.items, versions.n);
     let i = lent(&implementations.items, implementations.n);
     commands::add_mod(b, c, v, i)
 }
 
-fn add_sys(b: Book, args: &[u8]) -> Outcome {
-    let c = number(args, 0);
-    let usable = list(args, 1);
-    let versions = list(args, 2);
-    let lengths = list(args, 3);
-    let members = list(args, 4);
-    let chosen = list(args, 5);
+fn add_sys(rt: &HostRuntime, b: Book, args: &[u8]) -> Outcome {
+    let c = number(rt, args, 0);
+    let usable = list(rt, args, 1);
+    let versions = list(rt, args, 2);
+    let lengths = list(rt, args, 3);
+    let members = list(rt, args, 4);
+    let chosen = list(rt, args, 5);
     let u = lent(&usable.items, usable.n);
     let v = lent(&versions.items, versions.n);
     let l = lent(&lengths.items, lengths.n);
@@ -201,111 +214,111 @@ fn add_sys(b: Book, args: &[u8]) -> Outcome {
     commands::add_sys(b, c, u, v, l, m, w)
 }
 
-fn add_modvar(b: Book, args: &[u8]) -> Outcome {
-    let c = number(args, 0);
-    let v = number(args, 1);
-    let required = number(args, 2) as u64;
-    commands::add_modvar(b, c, v, required, number(args, 3))
+fn add_modvar(rt: &HostRuntime, b: Book, args: &[u8]) -> Outcome {
+    let c = number(rt, args, 0);
+    let v = number(rt, args, 1);
+    let required = number(rt, args, 2) as u64;
+    commands::add_modvar(b, c, v, required, number(rt, args, 3))
 }
 
-fn add_sysvar(b: Book, args: &[u8]) -> Outcome {
-    let c = number(args, 0);
-    let v = number(args, 1);
-    let members = list(args, 2);
-    let chosen = list(args, 3);
+fn add_sysvar(rt: &HostRuntime, b: Book, args: &[u8]) -> Outcome {
+    let c = number(rt, args, 0);
+    let v = number(rt, args, 1);
+    let members = list(rt, args, 2);
+    let chosen = list(rt, args, 3);
     let m = lent(&members.items, members.n);
     let w = lent(&chosen.items, chosen.n);
     commands::add_sysvar(b, c, v, m, w)
 }
 
 // The adding call of a number.
-fn add(command: usize, b: Book, args: &[u8]) -> Outcome {
+fn add(rt: &HostRuntime, command: usize, b: Book, args: &[u8]) -> Outcome {
     match command {
-        0 => add_spec(b, args),
-        1 => add_mod(b, args),
-        2 => add_sys(b, args),
-        3 => add_modvar(b, args),
-        _ => add_sysvar(b, args),
+        0 => add_spec(rt, b, args),
+        1 => add_mod(rt, b, args),
+        2 => add_sys(rt, b, args),
+        3 => add_modvar(rt, b, args),
+        _ => add_sysvar(rt, b, args),
     }
 }
 
 // The deleting call of a number.
-fn delete(command: usize, b: Book, args: &[u8]) -> Outcome {
-    let c = number(args, 0);
+fn delete(rt: &HostRuntime, command: usize, b: Book, args: &[u8]) -> Outcome {
+    let c = number(rt, args, 0);
     match command {
         5 => commands::del_spec(b, c),
         6 => commands::del_mod(b, c),
         7 => commands::del_sys(b, c),
-        8 => commands::del_modvar(b, c, number(args, 1)),
-        _ => commands::del_sysvar(b, c, number(args, 1)),
+        8 => commands::del_modvar(b, c, number(rt, args, 1)),
+        _ => commands::del_sysvar(b, c, number(rt, args, 1)),
     }
 }
 
-fn call(command: usize, b: Book, args: &[u8]) -> Outcome {
+fn call(rt: &HostRuntime, command: usize, b: Book, args: &[u8]) -> Outcome {
     if command < 5 {
-        return add(command, b, args);
+        return add(rt, command, b, args);
     }
-    delete(command, b, args)
+    delete(rt, command, b, args)
 }
 
-fn told(words: &[u8], o: Outcome) -> Book {
-    io::write_all(1, words);
-    io::write_all(1, b": ");
-    io::print_decimal(1, o.answer as u64);
-    io::write_all(1, b"\n");
+fn told(rt: &HostRuntime, words: &[u8], o: Outcome) -> Book {
+    write_out(rt, words);
+    write_out(rt, b": ");
+    write_decimal(rt, o.answer as u64);
+    write_out(rt, b"\n");
     o.book
 }
 
 // ---- the Book, and what else is done with it
 
 // The Book, and the two that are kept.
-#[derive(Drop)]
+#[derive(Clone, Copy)]
 struct Books {
     book: Book,
     first: Book,
     second: Book,
 }
 
-fn keep(books: Books, place: usize) -> Books {
+fn keep(rt: &HostRuntime, books: Books, place: usize) -> Books {
     let mut books = books;
     let book = books.book;
     match place {
         0 => books.first = book,
         1 => books.second = book,
-        _ => report(),
+        _ => report(rt),
     }
     books
 }
 
-fn kept(books: Books, place: usize) -> Book {
+fn kept(rt: &HostRuntime, books: Books, place: usize) -> Book {
     match place {
         0 => books.first,
         1 => books.second,
         _ => {
-            report();
+            report(rt);
             books.book
         }
     }
 }
 
-fn with_set(b: Book, place: usize, value: usize) -> Book {
+fn with_set(rt: &HostRuntime, b: Book, place: usize, value: usize) -> Book {
     let mut b = b;
     if place < 576 {
         b.sets[place] = value as u64;
     } else {
-        report();
+        report(rt);
     }
     b
 }
 
-fn with_number(b: Book, place: usize, value: usize) -> Book {
+fn with_number(rt: &HostRuntime, b: Book, place: usize, value: usize) -> Book {
     let mut b = b;
     if place >= 8768 {
-        report();
+        report(rt);
         return b;
     }
     if value >= 256 {
-        report();
+        report(rt);
         return b;
     }
     b.numbers[place] = value as u8;
@@ -313,12 +326,12 @@ fn with_number(b: Book, place: usize, value: usize) -> Book {
 }
 
 // The Book after a line.
-fn after(command: usize, books: Books, words: &[u8], args: &[u8]) -> Book {
+fn after(rt: &HostRuntime, command: usize, books: Books, words: &[u8], args: &[u8]) -> Book {
     match command {
-        BACK => kept(books, number(args, 0)),
-        SET => with_set(books.book, number(args, 0), number(args, 1)),
-        NUMBER => with_number(books.book, number(args, 0), number(args, 1)),
-        _ => told(words, call(command, books.book, args)),
+        BACK => kept(rt, books, number(rt, args, 0)),
+        SET => with_set(rt, books.book, number(rt, args, 0), number(rt, args, 1)),
+        NUMBER => with_number(rt, books.book, number(rt, args, 0), number(rt, args, 1)),
+        _ => told(rt, words, call(rt, command, books.book, args)),
     }
 }
 
@@ -388,43 +401,43 @@ fn semicolons(args: &[u8]) -> usize {
 }
 
 // A line with a colon.
-fn carry_out(books: Books, words: &[u8], args: &[u8]) -> Books {
+fn carry_out(rt: &HostRuntime, books: Books, words: &[u8], args: &[u8]) -> Books {
     let mut books = books;
     let end = place_of(words, 0, b',');
     let command = command_of(&words[..end]);
     if (command == OTHER) | (semicolons(args) != semicolons_of(command)) {
-        report();
+        report(rt);
         return books;
     }
     if command == KEEP {
-        return keep(books, number(args, 0));
+        return keep(rt, books, number(rt, args, 0));
     }
-    let book = after(command, books, words, args);
+    let book = after(rt, command, books, words, args);
     books.book = book;
     books
 }
 
-fn print_heading(line: &[u8]) {
-    io::write_all(1, line);
-    io::write_all(1, b"\n");
+fn print_heading(rt: &HostRuntime, line: &[u8]) {
+    write_out(rt, line);
+    write_out(rt, b"\n");
 }
 
-fn do_line(books: Books, line: &[u8]) -> Books {
+fn do_line(rt: &HostRuntime, books: Books, line: &[u8]) -> Books {
     if letter(line, 0) == b'#' {
         return books;
     }
     let colon = place_of(line, 0, b':');
     if colon < line.len() {
         let from = colon + 1;
-        return carry_out(books, &line[..colon], &line[from..]);
+        return carry_out(rt, books, &line[..colon], &line[from..]);
     }
     if line.len() > 0 {
-        print_heading(line);
+        print_heading(rt, line);
     }
     books
 }
 
-fn do_lines(input: &[u8]) {
+fn do_lines(rt: &HostRuntime, input: &[u8]) {
     let fresh = book::fresh();
     let mut books = Books {
         book: fresh,
@@ -434,7 +447,7 @@ fn do_lines(input: &[u8]) {
     let mut at = 0;
     loop {
         let end = place_of(input, at, b'\n');
-        books = do_line(books, &input[at..end]);
+        books = do_line(rt, books, &input[at..end]);
         if end == input.len() {
             return;
         }
@@ -442,8 +455,9 @@ fn do_lines(input: &[u8]) {
     }
 }
 
-fn main() {
-    let mut input = io::large_buffer();
-    let n = io::read_full(0, &mut input);
-    do_lines(&input[..n]);
+fn main(rt: HostRuntime) -> io::Result<()> {
+    let mut input = [0u8; 65536];
+    let n = input::fill(&mut rt.stdin(), &mut input)?;
+    do_lines(&rt, &input[..n]);
+    Ok(())
 }

@@ -1,4 +1,6 @@
 // A run of real calls: the teaching book, built from a fresh Book and tried with each of the ten calls. Prints the answers.
+#![tactic(auto)]
+
 ghost use Rattle.std.specs.Prelude.{[], ◌∷◌, ◌++◌};
 ghost use Rattle.command_outcome.specs.Calls.{Call, add_mod, add_spec, add_sys, add_sysvar, command_of};
 ghost use Rattle.command_outcome.specs.Outcome.{Called};
@@ -8,6 +10,16 @@ ghost use Rattle.try_demand_3.specs.Lesson.{building, lesson, trying};
 
 use book::Book;
 use commands::Outcome;
+use std::io::Write;
+
+// A write that fails is passed over.
+fn write_out(rt: &HostRuntime, text: &[u8]) {
+    let _ = rt.stdout().write_all(text);
+}
+
+fn write_decimal(rt: &HostRuntime, n: u64) {
+    let _ = rt.print(n);
+}
 
 // ADD-SPEC of a component with one version.
 fn spec(b: Book, c: usize, provided: u64, v: usize, required: u64) -> Outcome
@@ -201,21 +213,21 @@ fn teach() -> Taught
     }
 }
 
-fn say(answer: u8) {
-    io::print_decimal(1, answer as u64);
-    io::write_all(1, b"\n");
+fn say(rt: &HostRuntime, answer: u8) {
+    write_decimal(rt, answer as u64);
+    write_out(rt, b"\n");
 }
 
-fn say_all(answers: &[u8]) {
+fn say_all(rt: &HostRuntime, answers: &[u8]) {
     for i in 0..answers.len() {
-        say(answers[i]);
+        say(rt, answers[i]);
     }
 }
 
-fn main() {
+fn main(rt: HostRuntime) {
     let t = teach();
     let built = t.built;
     let tried = t.tried;
-    say_all(&built);
-    say_all(&tried);
+    say_all(&rt, &built);
+    say_all(&rt, &tried);
 }

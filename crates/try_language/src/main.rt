@@ -1,6 +1,8 @@
 // Reads texts from standard input, parted by form feeds, and prints a line for each command: the number of the text, the number of the
 // command's keyword, the position behind the command, and what was read. The four tables are empty at the start of each text and keep
 // their names from command to command. `stdout` was written from document 01.
+#![tactic(auto)]
+
 ghost use Rattle.std.specs.Prelude.{false, ◌≡◌, ◌<◌, ◌≤◌, length};
 ghost use Rattle.model.specs.Book.{components, facilities, implementations, versions};
 ghost use Rattle.read_tokens.specs.Entering.{Kept};
@@ -10,6 +12,8 @@ use read_command::{
     Command, Component, Form, Named, OfBook, OfComponent, OfVersion, Query, Version,
 };
 use read_tokens::Step;
+use std::io;
+use std::io::Write;
 
 // What parts two texts: a form feed, which is no white space.
 const PARTING: u8 = 12;
@@ -55,216 +59,226 @@ const PARTS: usize = 27;
 
 // ---- what was read, printed
 
-fn print(text: &[u8]) {
-    io::write_all(1, text);
+// A write that fails is passed over.
+fn write_out(rt: &HostRuntime, text: &[u8]) {
+    let _ = rt.stdout().write_all(text);
 }
 
-fn print_number(before: &[u8], n: usize) {
-    io::write_all(1, before);
-    io::print_decimal(1, n as u64);
+fn write_decimal(rt: &HostRuntime, n: u64) {
+    let _ = rt.print(n);
+}
+
+fn print(rt: &HostRuntime, text: &[u8]) {
+    write_out(rt, text);
+}
+
+fn print_number(rt: &HostRuntime, before: &[u8], n: usize) {
+    write_out(rt, before);
+    write_decimal(rt, n as u64);
 }
 
 // The start of a line: the number of the text, what is said of a command, a position.
-fn print_start(number: usize, said: &[u8], at: usize) {
-    io::print_decimal(1, number as u64);
-    print_number(said, at);
+fn print_start(rt: &HostRuntime, number: usize, said: &[u8], at: usize) {
+    write_decimal(rt, number as u64);
+    print_number(rt, said, at);
 }
 
 // A command that was read up to `end`.
-fn print_command(number: usize, keyword: usize, end: usize) {
-    print_start(number, b" command ", keyword);
-    print_number(b" to ", end);
+fn print_command(rt: &HostRuntime, number: usize, keyword: usize, end: usize) {
+    print_start(rt, number, b" command ", keyword);
+    print_number(rt, b" to ", end);
 }
 
 // An adding command that was read up to `end`, for component c.
-fn print_adding(number: usize, keyword: usize, end: usize, c: usize) {
-    print_command(number, keyword, end);
-    print_number(b": c", c);
+fn print_adding(rt: &HostRuntime, number: usize, keyword: usize, end: usize, c: usize) {
+    print_command(rt, number, keyword, end);
+    print_number(rt, b": c", c);
 }
 
 // "Adding commands: is there a place for each new name? no: 24." The numbers of such a command mean nothing.
-fn print_no_place(number: usize, keyword: usize, end: usize) {
-    print_command(number, keyword, end);
-    print(b": no place, 24\n");
+fn print_no_place(rt: &HostRuntime, number: usize, keyword: usize, end: usize) {
+    print_command(rt, number, keyword, end);
+    print(rt, b": no place, 24\n");
 }
 
-fn print_set(set: u64) {
+fn print_set(rt: &HostRuntime, set: u64) {
     for n in 0..64 {
         if sets::member(set, n) {
-            print_number(b" ", n);
+            print_number(rt, b" ", n);
         }
     }
 }
 
 // A list that names something twice, for question 3.
-fn print_twice(twice: bool) {
+fn print_twice(rt: &HostRuntime, twice: bool) {
     if twice {
-        print(b", twice");
+        print(rt, b", twice");
     }
 }
 
 // Versions with the facilities that each requires.
-fn print_requirements(listed: u64, at: [u64; 64]) {
+fn print_requirements(rt: &HostRuntime, listed: u64, at: [u64; 64]) {
     for v in 0..64 {
         if sets::member(listed, v) {
-            print_number(b"; v", v);
-            print(b" requires");
-            print_set(at[v]);
+            print_number(rt, b"; v", v);
+            print(rt, b" requires");
+            print_set(rt, at[v]);
         }
     }
 }
 
-fn print_spec(number: usize, r: read_tokens::SpecRequest) {
+fn print_spec(rt: &HostRuntime, number: usize, r: read_tokens::SpecRequest) {
     if !r.there {
         return;
     }
     if !r.room {
-        return print_no_place(number, SPEC, r.end);
+        return print_no_place(rt, number, SPEC, r.end);
     }
-    print_adding(number, SPEC, r.end, r.component);
-    print(b" provides");
-    print_set(r.provided);
+    print_adding(rt, number, SPEC, r.end, r.component);
+    print(rt, b" provides");
+    print_set(rt, r.provided);
     let versions = r.versions;
     let at = versions.at;
-    print_requirements(versions.listed, at);
-    print_twice(versions.twice);
-    print_number(b"; std v", r.standard);
-    print(b"\n");
+    print_requirements(rt, versions.listed, at);
+    print_twice(rt, versions.twice);
+    print_number(rt, b"; std v", r.standard);
+    print(rt, b"\n");
 }
 
 // Versions with their implementations.
-fn print_implementations(listed: u64, at: [u8; 64]) {
+fn print_implementations(rt: &HostRuntime, listed: u64, at: [u8; 64]) {
     for v in 0..64 {
         if sets::member(listed, v) {
-            print_number(b"; v", v);
-            print(b" impl ");
-            io::print_decimal(1, at[v] as u64);
+            print_number(rt, b"; v", v);
+            print(rt, b" impl ");
+            write_decimal(rt, at[v] as u64);
         }
     }
 }
 
-fn print_mod(number: usize, r: read_tokens::ModRequest) {
+fn print_mod(rt: &HostRuntime, number: usize, r: read_tokens::ModRequest) {
     if !r.there {
         return;
     }
     if !r.room {
-        return print_no_place(number, MOD, r.end);
+        return print_no_place(rt, number, MOD, r.end);
     }
-    print_adding(number, MOD, r.end, r.component);
+    print_adding(rt, number, MOD, r.end, r.component);
     let versions = r.versions;
     let at = versions.at;
-    print_implementations(versions.listed, at);
-    print_twice(versions.twice);
-    print(b"\n");
+    print_implementations(rt, versions.listed, at);
+    print_twice(rt, versions.twice);
+    print(rt, b"\n");
 }
 
 // A member with its version, or without where this is left out.
-fn print_member(m: usize, version: u8) {
-    print_number(b" c", m);
+fn print_member(rt: &HostRuntime, m: usize, version: u8) {
+    print_number(rt, b" c", m);
     if version < 64 {
-        print(b".v");
-        io::print_decimal(1, version as u64);
+        print(rt, b".v");
+        write_decimal(rt, version as u64);
     }
 }
 
-fn print_members(members: u64, versions: [u8; 32]) {
+fn print_members(rt: &HostRuntime, members: u64, versions: [u8; 32]) {
     for m in 0..32 {
         if sets::member(members, m) {
-            print_member(m, versions[m]);
+            print_member(rt, m, versions[m]);
         }
     }
 }
 
 // The members of version v, whose versions stand in its row of 32.
-fn print_row(members: u64, rows: [u8; 2048], v: usize)
+fn print_row(rt: &HostRuntime, members: u64, rows: [u8; 2048], v: usize)
     requires { v < 64 }
 {
     for m in 0..32 {
         if sets::member(members, m) {
-            print_member(m, rows[v * 32 + m]);
+            print_member(rt, m, rows[v * 32 + m]);
         }
     }
 }
 
-fn print_compositions(listed: u64, members: [u64; 64], rows: [u8; 2048]) {
+fn print_compositions(rt: &HostRuntime, listed: u64, members: [u64; 64], rows: [u8; 2048]) {
     for v in 0..64 {
         if sets::member(listed, v) {
-            print_number(b"; v", v);
-            print(b" =");
-            print_row(members[v], rows, v);
+            print_number(rt, b"; v", v);
+            print(rt, b" =");
+            print_row(rt, members[v], rows, v);
         }
     }
 }
 
-fn print_sys(number: usize, r: read_tokens::SysRequest) {
+fn print_sys(rt: &HostRuntime, number: usize, r: read_tokens::SysRequest) {
     if !r.there {
         return;
     }
     if !r.room {
-        return print_no_place(number, SYS, r.end);
+        return print_no_place(rt, number, SYS, r.end);
     }
-    print_adding(number, SYS, r.end, r.component);
-    print(b" use");
+    print_adding(rt, number, SYS, r.end, r.component);
+    print(rt, b" use");
     let usable = r.usable;
-    print_set(usable.set);
-    print_twice(usable.twice);
+    print_set(rt, usable.set);
+    print_twice(rt, usable.twice);
     let versions = r.versions;
     let members = versions.members;
     let rows = versions.rows;
-    print_compositions(versions.listed, members, rows);
-    print_twice(versions.twice);
-    print(b"\n");
+    print_compositions(rt, versions.listed, members, rows);
+    print_twice(rt, versions.twice);
+    print(rt, b"\n");
 }
 
-fn print_modvar(number: usize, r: read_tokens::ModvarRequest) {
+fn print_modvar(rt: &HostRuntime, number: usize, r: read_tokens::ModvarRequest) {
     if !r.there {
         return;
     }
     if !r.room {
-        return print_no_place(number, MODVAR, r.end);
+        return print_no_place(rt, number, MODVAR, r.end);
     }
-    print_adding(number, MODVAR, r.end, r.component);
-    print_number(b".v", r.version);
-    print(b" requires");
-    print_set(r.required);
-    print_number(b" impl ", r.implementation);
-    print(b"\n");
+    print_adding(rt, number, MODVAR, r.end, r.component);
+    print_number(rt, b".v", r.version);
+    print(rt, b" requires");
+    print_set(rt, r.required);
+    print_number(rt, b" impl ", r.implementation);
+    print(rt, b"\n");
 }
 
-fn print_sysvar(number: usize, r: read_tokens::SysvarRequest) {
+fn print_sysvar(rt: &HostRuntime, number: usize, r: read_tokens::SysvarRequest) {
     if !r.there {
         return;
     }
     if !r.room {
-        return print_no_place(number, SYSVAR, r.end);
+        return print_no_place(rt, number, SYSVAR, r.end);
     }
-    print_adding(number, SYSVAR, r.end, r.component);
-    print_number(b".v", r.version);
-    print(b" =");
+    print_adding(rt, number, SYSVAR, r.end, r.component);
+    print_number(rt, b".v", r.version);
+    print(rt, b" =");
     let composition = r.composition;
     let versions = composition.versions;
-    print_members(composition.members, versions);
-    print_twice(composition.twice);
-    print(b"\n");
+    print_members(rt, composition.members, versions);
+    print_twice(rt, composition.twice);
+    print(rt, b"\n");
 }
 
-fn print_choice(number: usize, r: read_command::Known) {
+fn print_choice(rt: &HostRuntime, number: usize, r: read_command::Known) {
     if !r.there {
         return;
     }
-    print_command(number, CHOICE, r.end);
-    print(b":");
+    print_command(rt, number, CHOICE, r.end);
+    print(rt, b":");
     if r.known {
-        print_set(r.set);
+        print_set(rt, r.set);
     } else {
-        print(b" a name without a number");
+        print(rt, b" a name without a number");
     }
-    print(b"\n");
+    print(rt, b"\n");
 }
 
 // ---- a command, from behind its first word
 
 fn spec(
+    rt: &HostRuntime,
     number: usize,
     comps: &mut [u8],
     vers: &mut [u8],
@@ -282,7 +296,7 @@ fn spec(
     ensures inside { Inside text.now result.there result.end }
 {
     let r = read_spec::read_spec(comps, vers, facs, text, at);
-    print_spec(number, r);
+    print_spec(rt, number, r);
     Step {
         there: r.there,
         end: r.end,
@@ -290,6 +304,7 @@ fn spec(
 }
 
 fn module(
+    rt: &HostRuntime,
     number: usize,
     comps: &mut [u8],
     vers: &mut [u8],
@@ -307,14 +322,21 @@ fn module(
     ensures inside { Inside text.now result.there result.end }
 {
     let r = read_mod::read_mod(comps, vers, impls, text, at);
-    print_mod(number, r);
+    print_mod(rt, number, r);
     Step {
         there: r.there,
         end: r.end,
     }
 }
 
-fn system(number: usize, comps: &mut [u8], vers: &mut [u8], text: &[u8], at: usize) -> Step
+fn system(
+    rt: &HostRuntime,
+    number: usize,
+    comps: &mut [u8],
+    vers: &mut [u8],
+    text: &[u8],
+    at: usize,
+) -> Step
     requires kept { Kept components comps.old }
     requires kept_2 { Kept versions vers.old }
     requires at_in_bounds { at ≤ length text.now }
@@ -323,7 +345,7 @@ fn system(number: usize, comps: &mut [u8], vers: &mut [u8], text: &[u8], at: usi
     ensures inside { Inside text.now result.there result.end }
 {
     let r = read_sys::read_sys(comps, vers, text, at);
-    print_sys(number, r);
+    print_sys(rt, number, r);
     Step {
         there: r.there,
         end: r.end,
@@ -331,6 +353,7 @@ fn system(number: usize, comps: &mut [u8], vers: &mut [u8], text: &[u8], at: usi
 }
 
 fn modvar(
+    rt: &HostRuntime,
     number: usize,
     comps: &mut [u8],
     vers: &mut [u8],
@@ -351,14 +374,21 @@ fn modvar(
     ensures inside { Inside text.now result.there result.end }
 {
     let r = read_mod::read_modvar(comps, vers, facs, impls, text, at);
-    print_modvar(number, r);
+    print_modvar(rt, number, r);
     Step {
         there: r.there,
         end: r.end,
     }
 }
 
-fn sysvar(number: usize, comps: &mut [u8], vers: &mut [u8], text: &[u8], at: usize) -> Step
+fn sysvar(
+    rt: &HostRuntime,
+    number: usize,
+    comps: &mut [u8],
+    vers: &mut [u8],
+    text: &[u8],
+    at: usize,
+) -> Step
     requires kept { Kept components comps.old }
     requires kept_2 { Kept versions vers.old }
     requires at_in_bounds { at ≤ length text.now }
@@ -367,20 +397,20 @@ fn sysvar(number: usize, comps: &mut [u8], vers: &mut [u8], text: &[u8], at: usi
     ensures inside { Inside text.now result.there result.end }
 {
     let r = read_sys::read_sysvar(comps, vers, text, at);
-    print_sysvar(number, r);
+    print_sysvar(rt, number, r);
     Step {
         there: r.there,
         end: r.end,
     }
 }
 
-fn choice(number: usize, facs: &[u8], text: &[u8], at: usize) -> Step
+fn choice(rt: &HostRuntime, number: usize, facs: &[u8], text: &[u8], at: usize) -> Step
     requires kept { Kept facilities facs.now }
     requires at_in_bounds { at ≤ length text.now }
     ensures { Inside text.now result.there result.end }
 {
     let r = read_command::read_choice(facs, text, at);
-    print_choice(number, r);
+    print_choice(rt, number, r);
     Step {
         there: r.there,
         end: r.end,
@@ -388,7 +418,7 @@ fn choice(number: usize, facs: &[u8], text: &[u8], at: usize) -> Step
 }
 
 // A command of one component: its name, as the part of the text.
-fn one(number: usize, keyword: usize, text: &[u8], at: usize) -> Step
+fn one(rt: &HostRuntime, number: usize, keyword: usize, text: &[u8], at: usize) -> Step
     requires { at ≤ length text.now }
     ensures { Inside text.now result.there result.end }
 {
@@ -399,10 +429,10 @@ fn one(number: usize, keyword: usize, text: &[u8], at: usize) -> Step
             end: at,
         };
     }
-    print_command(number, keyword, r.end);
-    print(b": ");
-    print(words::part(text, r.start, r.end));
-    print(b"\n");
+    print_command(rt, number, keyword, r.end);
+    print(rt, b": ");
+    print(rt, words::part(text, r.start, r.end));
+    print(rt, b"\n");
     Step {
         there: true,
         end: r.end,
@@ -410,7 +440,7 @@ fn one(number: usize, keyword: usize, text: &[u8], at: usize) -> Step
 }
 
 // A command of a pair: the two names.
-fn pair(number: usize, keyword: usize, text: &[u8], at: usize) -> Step
+fn pair(rt: &HostRuntime, number: usize, keyword: usize, text: &[u8], at: usize) -> Step
     requires { at ≤ length text.now }
     ensures { Inside text.now result.there result.end }
 {
@@ -421,12 +451,12 @@ fn pair(number: usize, keyword: usize, text: &[u8], at: usize) -> Step
             end: at,
         };
     }
-    print_command(number, keyword, r.to);
-    print(b": ");
-    print(words::part(text, r.start, r.end));
-    print(b".");
-    print(words::part(text, r.from, r.to));
-    print(b"\n");
+    print_command(rt, number, keyword, r.to);
+    print(rt, b": ");
+    print(rt, words::part(text, r.start, r.end));
+    print(rt, b".");
+    print(rt, words::part(text, r.from, r.to));
+    print(rt, b"\n");
     Step {
         there: true,
         end: r.to,
@@ -434,11 +464,11 @@ fn pair(number: usize, keyword: usize, text: &[u8], at: usize) -> Step
 }
 
 // A command that is its keyword.
-fn alone(number: usize, keyword: usize, at: usize) -> Step
+fn alone(rt: &HostRuntime, number: usize, keyword: usize, at: usize) -> Step
     ensures { result.end ≡ at }
 {
-    print_command(number, keyword, at);
-    print(b"\n");
+    print_command(rt, number, keyword, at);
+    print(rt, b"\n");
     Step {
         there: true,
         end: at,
@@ -489,6 +519,7 @@ fn of_book(what: OfBook) -> usize {
 
 // One of the ten commands.
 fn change(
+    rt: &HostRuntime,
     number: usize,
     command: Command,
     comps: &mut [u8],
@@ -510,50 +541,50 @@ fn change(
     ensures inside { Inside text.now result.there result.end }
 {
     match command {
-        Command::AddSpec => spec(number, comps, vers, facs, text, at),
-        Command::AddMod => module(number, comps, vers, impls, text, at),
-        Command::AddSys => system(number, comps, vers, text, at),
-        Command::AddModvar => modvar(number, comps, vers, facs, impls, text, at),
-        Command::AddSysvar => sysvar(number, comps, vers, text, at),
-        Command::Remove(what) => one(number, of_component(what), text, at),
-        Command::RemoveVersion(what) => pair(number, of_version(what), text, at),
+        Command::AddSpec => spec(rt, number, comps, vers, facs, text, at),
+        Command::AddMod => module(rt, number, comps, vers, impls, text, at),
+        Command::AddSys => system(rt, number, comps, vers, text, at),
+        Command::AddModvar => modvar(rt, number, comps, vers, facs, impls, text, at),
+        Command::AddSysvar => sysvar(rt, number, comps, vers, text, at),
+        Command::Remove(what) => one(rt, number, of_component(what), text, at),
+        Command::RemoveVersion(what) => pair(rt, number, of_version(what), text, at),
     }
 }
 
-fn ask_named(number: usize, named: Named, text: &[u8], at: usize) -> Step
+fn ask_named(rt: &HostRuntime, number: usize, named: Named, text: &[u8], at: usize) -> Step
     requires { at ≤ length text.now }
     ensures { Inside text.now result.there result.end }
 {
     match named {
-        Named::One(what) => one(number, of_one(what), text, at),
-        Named::Pair(what) => pair(number, of_pair(what), text, at),
+        Named::One(what) => one(rt, number, of_one(what), text, at),
+        Named::Pair(what) => pair(rt, number, of_pair(what), text, at),
     }
 }
 
 // A query.
-fn ask(number: usize, query: Query, facs: &[u8], text: &[u8], at: usize) -> Step
+fn ask(rt: &HostRuntime, number: usize, query: Query, facs: &[u8], text: &[u8], at: usize) -> Step
     requires kept { Kept facilities facs.now }
     requires at_in_bounds { at ≤ length text.now }
     ensures { Inside text.now result.there result.end }
 {
     match query {
-        Query::ByName(named) => ask_named(number, named, text, at),
-        Query::Choice => choice(number, facs, text, at),
-        Query::Whole(what) => alone(number, of_book(what), at),
+        Query::ByName(named) => ask_named(rt, number, named, text, at),
+        Query::Choice => choice(rt, number, facs, text, at),
+        Query::Whole(what) => alone(rt, number, of_book(what), at),
     }
 }
 
 // ---- texts
 
-fn print_over(number: usize, at: usize) {
-    print_start(number, b" over at ", at);
-    print(b"\n");
+fn print_over(rt: &HostRuntime, number: usize, at: usize) {
+    print_start(rt, number, b" over at ", at);
+    print(rt, b"\n");
 }
 
 // "Is the command of the language? no: 23, and the session ends." The position is the one behind the command before it.
-fn print_wrong(number: usize, at: usize) {
-    print_start(number, b" not of the language, 23, from ", at);
-    print(b"\n");
+fn print_wrong(rt: &HostRuntime, number: usize, at: usize) {
+    print_start(rt, number, b" not of the language, 23, from ", at);
+    print(rt, b"\n");
 }
 
 fn none(at: usize) -> Step
@@ -566,17 +597,18 @@ fn none(at: usize) -> Step
 }
 
 // What was read, if it was; else it is said that it is not of the language.
-fn tell(number: usize, at: usize, s: Step) -> Step
+fn tell(rt: &HostRuntime, number: usize, at: usize, s: Step) -> Step
     ensures { (result.there ≡ s.there) × (result.end ≡ s.end) }
 {
     if !s.there {
-        print_wrong(number, at);
+        print_wrong(rt, number, at);
     }
     s
 }
 
 // The next command of a text. After "quit", the end of the text, or what is not of the language none is there.
 fn print_next(
+    rt: &HostRuntime,
     number: usize,
     comps: &mut [u8],
     vers: &mut [u8],
@@ -601,23 +633,24 @@ fn print_next(
     let form = w.form;
     match form {
         Form::Changes(command) => {
-            let s = change(number, command, comps, vers, facs, impls, text, e);
-            tell(number, at, s)
+            let s = change(rt, number, command, comps, vers, facs, impls, text, e);
+            tell(rt, number, at, s)
         }
         Form::Asks(query) => {
-            let s = ask(number, query, facs, text, e);
-            tell(number, at, s)
+            let s = ask(rt, number, query, facs, text, e);
+            tell(rt, number, at, s)
         }
         Form::Over => {
-            print_over(number, e);
+            print_over(rt, number, e);
             none(at)
         }
-        Form::Nothing => tell(number, at, none(at)),
+        Form::Nothing => tell(rt, number, at, none(at)),
     }
 }
 
 // The commands of a text. A command ends behind its start, so the second test says no.
 fn print_commands(
+    rt: &HostRuntime,
     number: usize,
     comps: &mut [u8],
     vers: &mut [u8],
@@ -632,7 +665,7 @@ fn print_commands(
 {
     let mut at = 0;
     loop {
-        let s = print_next(number, comps, vers, facs, impls, text, at);
+        let s = print_next(rt, number, comps, vers, facs, impls, text, at);
         if !s.there {
             return;
         }
@@ -643,12 +676,14 @@ fn print_commands(
     }
 }
 
-fn print_text(number: usize, text: &[u8]) {
+fn print_text(rt: &HostRuntime, number: usize, text: &[u8]) {
     let mut comps = [0u8; 1056];
     let mut vers = [0u8; 2112];
     let mut facs = [0u8; 2112];
     let mut impls = [0u8; 8448];
-    print_commands(number, &mut comps, &mut vers, &mut facs, &mut impls, text);
+    print_commands(
+        rt, number, &mut comps, &mut vers, &mut facs, &mut impls, text,
+    );
 }
 
 // The end of the text that starts at `at`.
@@ -666,12 +701,12 @@ fn text_end(input: &[u8], at: usize) -> usize
     i
 }
 
-fn print_texts(input: &[u8]) {
+fn print_texts(rt: &HostRuntime, input: &[u8]) {
     let mut number = 1;
     let mut at = 0;
     loop {
         let end = text_end(input, at);
-        print_text(number, &input[at..end]);
+        print_text(rt, number, &input[at..end]);
         if end == input.len() {
             return;
         }
@@ -680,8 +715,9 @@ fn print_texts(input: &[u8]) {
     }
 }
 
-fn main() {
-    let mut input = io::large_buffer();
-    let n = io::read_full(0, &mut input);
-    print_texts(&input[..n]);
+fn main(rt: HostRuntime) -> io::Result<()> {
+    let mut input = [0u8; 65536];
+    let n = input::fill(&mut rt.stdin(), &mut input)?;
+    print_texts(&rt, &input[..n]);
+    Ok(())
 }

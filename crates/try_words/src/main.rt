@@ -1,39 +1,53 @@
 // Reads a text from standard input and prints its tokens, one a line. Behind a form feed stand words, one a line: what each is comes after
 // it. `stdout` was written from document 01.
+#![tactic(auto)]
+
 ghost use Rattle.std.specs.Prelude.{◌≤◌, length};
+
+use std::io;
+use std::io::Write;
 
 // What parts the text from the words: a form feed, which is no white space.
 const PARTING: u8 = 12;
 
-fn print(kind: &[u8], part: &[u8]) {
-    io::write_all(1, kind);
-    io::write_all(1, part);
-    io::write_all(1, b"\n");
+// A write that fails is passed over.
+fn write_out(rt: &HostRuntime, text: &[u8]) {
+    let _ = rt.stdout().write_all(text);
 }
 
-fn print_tokens(text: &[u8]) {
+fn write_decimal(rt: &HostRuntime, n: u64) {
+    let _ = rt.print(n);
+}
+
+fn print(rt: &HostRuntime, kind: &[u8], part: &[u8]) {
+    write_out(rt, kind);
+    write_out(rt, part);
+    write_out(rt, b"\n");
+}
+
+fn print_tokens(rt: &HostRuntime, text: &[u8]) {
     let mut at = 0;
     loop {
         let token = words::next_token(text, at);
         match token {
             words::Token::Word(start, end) => {
-                print(b"word ", words::word(text, start));
+                print(rt, b"word ", words::word(text, start));
                 at = end;
             }
             words::Token::Quoted(start, end) => {
-                print(b"implementation ", words::part(text, start, end));
+                print(rt, b"implementation ", words::part(text, start, end));
                 at = end + 1;
             }
             words::Token::Mark(_, end) => {
-                print(b"mark ", words::part(text, end - 1, end));
+                print(rt, b"mark ", words::part(text, end - 1, end));
                 at = end;
             }
             words::Token::End => {
-                print(b"end", b"");
+                print(rt, b"end", b"");
                 return;
             }
             words::Token::Bad => {
-                print(b"no token", b"");
+                print(rt, b"no token", b"");
                 return;
             }
         }
@@ -43,7 +57,7 @@ fn print_tokens(text: &[u8]) {
 // ---- what a word is
 
 // A keyword with its number. What is empty or has more than 32 bytes is none.
-fn print_keyword(word: &[u8]) {
+fn print_keyword(rt: &HostRuntime, word: &[u8]) {
     if word.len() == 0 {
         return;
     }
@@ -53,21 +67,21 @@ fn print_keyword(word: &[u8]) {
     let names::Found::At(k) = words::keyword_of(word) else {
         return;
     };
-    io::write_all(1, b" keyword ");
-    io::print_decimal(1, k as u64);
+    write_out(rt, b" keyword ");
+    write_decimal(rt, k as u64);
 }
 
-fn print_kinds(word: &[u8]) {
-    io::write_all(1, word);
-    io::write_all(1, b":");
-    print_keyword(word);
+fn print_kinds(rt: &HostRuntime, word: &[u8]) {
+    write_out(rt, word);
+    write_out(rt, b":");
+    print_keyword(rt, word);
     if words::is_valid_name(word) {
-        io::write_all(1, b" name");
+        write_out(rt, b" name");
     }
     if words::is_valid_implementation(word) {
-        io::write_all(1, b" implementation");
+        write_out(rt, b" implementation");
     }
-    io::write_all(1, b"\n");
+    write_out(rt, b"\n");
 }
 
 // The end of the part that starts at `at`: where the next c stands, or all ends.
@@ -85,11 +99,11 @@ fn part_end(input: &[u8], at: usize, c: u8) -> usize
     i
 }
 
-fn print_words(input: &[u8]) {
+fn print_words(rt: &HostRuntime, input: &[u8]) {
     let mut at = 0;
     loop {
         let end = part_end(input, at, b'\n');
-        print_kinds(&input[at..end]);
+        print_kinds(rt, &input[at..end]);
         if end == input.len() {
             return;
         }
@@ -97,18 +111,19 @@ fn print_words(input: &[u8]) {
     }
 }
 
-fn print_all(input: &[u8]) {
+fn print_all(rt: &HostRuntime, input: &[u8]) {
     let start = 0;
     let end = part_end(input, start, PARTING);
-    print_tokens(&input[start..end]);
+    print_tokens(rt, &input[start..end]);
     if end < input.len() {
         let next = end + 1;
-        print_words(&input[next..]);
+        print_words(rt, &input[next..]);
     }
 }
 
-fn main() {
-    let mut input = io::buffer();
-    let n = io::read_full(0, &mut input);
-    print_all(&input[..n]);
+fn main(rt: HostRuntime) -> io::Result<()> {
+    let mut input = [0u8; 4096];
+    let n = input::fill(&mut rt.stdin(), &mut input)?;
+    print_all(&rt, &input[..n]);
+    Ok(())
 }

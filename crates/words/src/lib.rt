@@ -1,5 +1,7 @@
 // Tokens and words of a text. The text is the caller's, the position a number of its own. What an answer means is
 // specs/Reading.antt.
+#![tactic(auto)]
+
 ghost use Rattle.std.specs.Prelude.{◌≡◌, true, ◌+◌, ◌<◌, ◌≤◌, ◌-◌, length, take, drop};
 ghost use Rattle.sets.specs.Sets.{bit};
 ghost use Rattle.text.specs.Bytes.{same, short, white, alnum, is_mark, keywords, name_word, valid_name, valid_implementation};
@@ -10,7 +12,7 @@ ghost use Rattle.words.specs.Reading.{passes, stays_open, in_run, Skips, RunsTo,
 ghost use Rattle.names.specs.Stored.{answered};
 
 // Where the next token or the end of the text stands; or a comment is left open.
-#[derive(Drop)]
+#[derive(Clone, Copy)]
 pub enum Skipped {
     To(usize),
     Open,
@@ -18,7 +20,7 @@ pub enum Skipped {
 
 // A word from its start to its end; what stands within an implementation's quotes; a mark and the position after it; the end
 // of the text; or what is no token.
-#[derive(Drop)]
+#[derive(Clone, Copy)]
 pub enum Token {
     Word(usize, usize),
     Quoted(usize, usize),

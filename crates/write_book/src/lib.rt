@@ -1,4 +1,6 @@
 // The text of a Book with its tables: specs, modules, systems in document 01's order.
+#![tactic(auto)]
+
 ghost use Rattle.std.specs.Prelude.{◌≡◌, [], ◌<◌};
 ghost use Rattle.sets.specs.Sets.{bit, below};
 ghost use Rattle.text.specs.Written.{written};

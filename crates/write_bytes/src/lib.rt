@@ -1,4 +1,6 @@
 // Bytes, numbers and names written into the rest of a lent slice, and rows of them.
+#![tactic(auto)]
+
 ghost use Rattle.std.specs.Prelude.{◌≡◌, ◌∷◌, [], ◌++◌, ◌*◌, ◌≤◌, length};
 ghost use Rattle.sets.specs.Tests.{◌&◌, ◌≤?◌};
 ghost use Rattle.text.specs.Bytes.{bytes};
@@ -13,7 +15,7 @@ const WIDTH: usize = 33;
 
 // The room for what is still to be written: how many bytes are left, and whether all up to now did fit. The bytes that are left
 // are the last of the slice; a slice that is shorter is not written, so that a writer on an empty slice only measures.
-#[derive(Drop)]
+#[derive(Clone, Copy)]
 pub struct Room {
     pub fits: bool,
     pub left: usize,
@@ -44,7 +46,7 @@ pub fn put(out: &mut [u8], room: Room, word: &[u8]) -> Room
         return then;
     }
     let at = out.len() - left;
-    bytes::copy(word, &mut out[at..]);
+    seqs::copy(word, &mut out[at..]);
     then
 }
 
@@ -143,7 +145,7 @@ pub fn put_pair(out: &mut [u8], room: Room, i: usize, component: &[u8], version:
 }
 
 // A row at the start of a lent slice: whether it fits, and how many bytes it has.
-#[derive(Drop)]
+#[derive(Clone, Copy)]
 pub struct Wrote {
     pub fits: bool,
     pub len: usize,

@@ -1,4 +1,6 @@
 // A line of a book's text: a spec, a module or a system with its versions.
+#![tactic(auto)]
+
 ghost use Rattle.std.specs.Prelude.{◌≡◌, [], ◌++◌, ◌<◌};
 ghost use Rattle.sets.specs.Sets.{bit};
 ghost use Rattle.sets.specs.Tests.{if◌then◌else◌};

@@ -1,4 +1,6 @@
 // The lowest name of a set: "by rising bytes of the name (a name before its extensions)".
+#![tactic(auto)]
+
 ghost use Rattle.std.specs.Prelude.{◌≡◌, ◌*◌, ◌<◌, ◌≤◌, length};
 ghost use Rattle.sets.specs.Sets.{bit};
 ghost use Rattle.text.specs.Written.{before};

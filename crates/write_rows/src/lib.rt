@@ -1,4 +1,6 @@
 // "Each row goes into the unwritten rest of the lent slice": the rest of the slice is lent on to the row writer, which fills its start.
+#![tactic(auto)]
+
 ghost use Rattle.std.specs.Prelude.{◌≡◌, ◌*◌, length};
 ghost use Rattle.sets.specs.Tests.{◌&◌, ◌≤?◌};
 ghost use Rattle.text.specs.Session.{decimal, row};

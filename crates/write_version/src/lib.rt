@@ -1,4 +1,6 @@
 // The parts of a line of a book's text: names that commas part, a version of a spec, of a module and of a system.
+#![tactic(auto)]
+
 ghost use Rattle.std.specs.Prelude.{◌≡◌, true, [], ◌++◌, ◌*◌, ◌<◌, ◌≤◌, length};
 ghost use Rattle.sets.specs.Sets.{bit};
 ghost use Rattle.sets.specs.Tests.{if◌then◌else◌};
@@ -14,7 +16,7 @@ ghost use Rattle.book.specs.Plain.{plain_of, systems_of};
 use write_bytes::Room;
 
 // What a line tells of a component.
-#[derive(Drop)]
+#[derive(Clone, Copy)]
 pub enum Kind {
     Spec,
     Module,

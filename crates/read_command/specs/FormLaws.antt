@@ -50,8 +50,8 @@ begin_at : (ws : List Text) (fs : List Form) → Begin ws fs → (k : ℕ) → k
     → worded (name_at ws k) t ≡ begun (get_or fs k Nothing) t
 unfolding name_at
 begin_at [] [] none_left k l t = absurd (omega arith)
-begin_at [] (f ∷ fs) none k l t = elim none [ ]
-begin_at (w ∷ ws) [] none k l t = elim none [ ]
+begin_at [] (f ∷ fs) x k l t = elim x [ ]
+begin_at (w ∷ ws) [] x k l t = elim x [ ]
 begin_at (w ∷ ws) (f ∷ fs) (and b r) zero l t = b t
 begin_at (w ∷ ws) (f ∷ fs) (and b r) (suc k) l t = begin_at ws fs r k (omega arith) t
 

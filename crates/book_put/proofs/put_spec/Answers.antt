@@ -1,0 +1,23 @@
+use Rattle.std.proofs.Common.{rules, arith}
+use Rattle.book_put.specs.SpecLaws.{spec_begin, spec_end, spec_asks, spec_in_lem, spec_out}
+use Rattle.book_put.proofs.put_spec.Goals as goal
+use Rattle.book_put.proofs.put_spec.Goals.{else-member, then-member}
+
+pub loop-v-init : goal.loop-v-init
+loop-v-init c = (search rules, search (rules, spec_begin))
+
+pub put_version-requires : goal.put_version-requires
+put_version-requires c =
+    let all_of = spec_asks _ _ _ _ _ _ _ _ _ c.requires.0 c.put_blank.ensures _ _ _ c.loop-v.invariant.1
+    c.loop-v-test.true c.member.ensures c.if-member.true c.requires.1 in
+    record { takes_version = all_of.0; c_value = all_of.1 }
+
+pub loop-v-preserved : goal.loop-v-preserved
+loop-v-preserved c =
+    let blanked = c.put_blank.ensures in (
+      omega arith,
+      elim c.if-member.branch [ then-member w ↦ rw (w.put_version, w.sets-is) (spec_in_lem _ _ _ _ _ _ _ _ _ c.requires.0 blanked _ _ _ c.loop-v.invariant.1 _ _ _ c.member.ensures w.if-member.true w.below_64-arg-1.ensures w.below_64.ensures) | else-member w ↦ rw (w.sets-is, w.numbers-is) (spec_out _ _ _ _ _ _ _ _ _ c.requires.0 blanked _ _ _ c.loop-v.invariant.1 c.member.ensures w.if-member.false) ],
+    )
+
+pub returns : goal.returns
+returns c = search (rules, spec_end)

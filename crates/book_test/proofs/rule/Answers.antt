@@ -1,0 +1,36 @@
+use Rattle.std.proofs.Common.{rules, arith}
+use Rattle.book_rules.specs.CompositionLaws.{of_system, if_composed}
+use Rattle.model.specs.Rules.{each_composition}
+use Rattle.sets.specs.LoopLaws.{all_start, all_turn, all_stop, all_end}
+use Rattle.book_test.proofs.rule.Goals as goal
+
+pub loop-s-init : goal.loop-s-init
+loop-s-init c = (search rules, c.requires.kept, all_start _)
+
+pub rule_of_system-requires-clause-s_bound : goal.rule_of_system-requires-clause-s_bound
+rule_of_system-requires-clause-s_bound c = c.loop-s-test.true
+
+pub rule_of_system-requires-clause-sound : goal.rule_of_system-requires-clause-sound
+rule_of_system-requires-clause-sound c = c.requires.sound
+
+pub rule_of_system-requires-clause-kept : goal.rule_of_system-requires-clause-kept
+rule_of_system-requires-clause-kept c = c.loop-s.invariant.1
+
+pub returns-then-not-rule_of_system-clause-value : goal.returns-then-not-rule_of_system-clause-value
+unfolding each_composition of_system if_composed
+returns-then-not-rule_of_system-clause-value c = all_stop _ _ _ c.loop-s-test.true c.rule_of_system.ensures.value c.if-not-rule_of_system.true
+
+pub returns-then-not-rule_of_system-clause-kept_2 : goal.returns-then-not-rule_of_system-clause-kept_2
+unfolding each_composition of_system if_composed
+returns-then-not-rule_of_system-clause-kept_2 c = c.rule_of_system.ensures.kept_2
+
+pub loop-s-preserved : goal.loop-s-preserved
+loop-s-preserved c = (omega arith, c.rule_of_system.ensures.kept_2, all_turn _ _ c.loop-s.invariant.2 c.rule_of_system.ensures.value c.if-not-rule_of_system.false)
+
+pub returns-clause-value : goal.returns-clause-value
+unfolding each_composition of_system if_composed
+returns-clause-value c = all_end _ _ _ c.loop-s.invariant.0 c.loop-s-test.false c.loop-s.invariant.2
+
+pub returns-clause-kept_2 : goal.returns-clause-kept_2
+unfolding each_composition of_system if_composed
+returns-clause-kept_2 c = c.loop-s.invariant.1

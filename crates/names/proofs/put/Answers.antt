@@ -1,0 +1,18 @@
+use Rattle.std.proofs.Common.{arith, length-take, length-drop}
+use Rattle.names.specs.PlaceLaws.{short_length}
+use Rattle.names.specs.StoredLaws.{put_name}
+use Rattle.names.proofs.put.Goals as goal
+
+pub copy-requires : goal.copy-requires
+copy-requires c =
+    let p = c.requires in
+    simp (length-take, length-drop) (omega (arith, p.names_len, p.k_lt_places, (short_length _ p.word_value).1))
+
+pub overflow_cast-names : goal.overflow_cast-names
+overflow_cast-names c = omega (arith, (short_length _ c.requires.word_value).1)
+
+pub returns : goal.returns
+returns c =
+    let p = c.requires in
+    let copied = c.copy in
+    put_name _ _ _ p.names_len p.k_lt_places _ copied.new.1.0 p.word_value p.k_value copied.ensures.1

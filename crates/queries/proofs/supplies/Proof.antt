@@ -1,9 +1,0 @@
-use Rattle.query_replies.specs.RepliedLaws.{refuse_25}
-use Rattle.book_rules.specs.TestLaws.{is_yes}
-use borrow.Author.Rules.{rules}
-use Rattle.queries.proofs.supplies.Statement.{statement}
-use Rattle.queries.proofs.supplies.Tie as tie
-
-pub supplies-spec : {M : Type 1} → statement M
-supplies-spec = tie.close
-    (tie.spec (λ c κs. search rules) (λ c. search (rules, refuse_25)) (λ c κs. search (rules, is_yes)) (λ c. search rules))

@@ -1,0 +1,10 @@
+use Rattle.std.proofs.Common.{rules}
+use Rattle.query_replies.specs.RepliedLaws.{refuse_25}
+use Rattle.book_rules.specs.TestLaws.{is_yes}
+use Rattle.queries.proofs.whereused.Goals as goal
+
+pub returns-then-not-passes : goal.returns-then-not-passes
+returns-then-not-passes c = search (rules, refuse_25)
+
+pub whereused_in-requires : goal.whereused_in-requires
+whereused_in-requires c = search (rules, is_yes)

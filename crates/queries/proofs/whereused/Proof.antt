@@ -1,9 +1,0 @@
-use Rattle.query_replies.specs.RepliedLaws.{refuse_25}
-use Rattle.book_rules.specs.TestLaws.{is_yes}
-use borrow.Author.Rules.{rules}
-use Rattle.queries.proofs.whereused.Statement.{statement}
-use Rattle.queries.proofs.whereused.Tie as tie
-
-pub whereused-spec : {M : Type 1} → statement M
-whereused-spec = tie.close
-    (tie.spec (λ c κs. search rules) (λ c. search (rules, refuse_25)) (λ c κs. search (rules, is_yes)) (λ c. search rules))

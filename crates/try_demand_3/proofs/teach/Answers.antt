@@ -1,0 +1,8 @@
+use Rattle.demand_3.specs.DemandLaws.{demand-3}
+use Rattle.try_demand_3.specs.LessonLaws.{run_on}
+use Rattle.try_demand_3.proofs.teach.Goals as goal
+
+pub returns : goal.returns
+returns c =
+    demand-3 c.fresh.ensures
+    (run_on c.build-first.ensures c.try_each-then.ensures)

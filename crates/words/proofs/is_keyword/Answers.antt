@@ -1,0 +1,17 @@
+use Rattle.std.proofs.Common.{refl}
+use Rattle.words.specs.Keywords.{keyword_count}
+use Rattle.sets.specs.Tests.{◌≤?◌, if◌then◌else◌}
+use Rattle.text.specs.Bytes.{bytes, keywords}
+use Rattle.names.specs.Stored.{before, name_in, table_of, up_to_last}
+use Rattle.words.specs.NameLaws.{held_at}
+use Rattle.words.proofs.is_keyword.Goals as goal
+
+pub holds-requires : goal.holds-requires
+holds-requires c =
+    let all_of = (refl, (c.requires.k_lt_keyword_count, c.requires.word_value)) in
+    record { names_len = all_of.0; k_lt_places = all_of.1.0; word_value = all_of.1.1 }
+
+pub returns : goal.returns
+returns c =
+    held_at keyword_count _ _ _ _ c.requires.k_lt_keyword_count c.holds.ensures keywords
+    (unfold table_of up_to_last before name_in if◌then◌else◌ ◌≤?◌ keywords bytes in refl)

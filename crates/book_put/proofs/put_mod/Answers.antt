@@ -11,7 +11,7 @@ loop-j-preserved c =
     let taken = c.loop-j-test.true in
     let low = c.requires.component< in (
       omega arith,
-      elim c.if-v-lt64.branch [ then-v-lt64 w ↦ rw w.numbers-1 (implemented_hit _ _ _ low _ _ taken c.loop-j.invariant.1 c.wide-v.ensures w.if-v-lt64.true) | else-v-lt64 w ↦ rw w.numbers-is (implemented_miss _ _ _ low _ _ taken c.loop-j.invariant.1 c.wide-v.ensures w.if-v-lt64.false) ],
+      elim c.if-v-lt64.branch [ then-v-lt64 w ↦ rw w.numbers-is (implemented_hit _ _ _ low _ _ taken c.loop-j.invariant.1 c.wide-v.ensures w.if-v-lt64.true) | else-v-lt64 w ↦ rw w.numbers-is (implemented_miss _ _ _ low _ _ taken c.loop-j.invariant.1 c.wide-v.ensures w.if-v-lt64.false) ],
     )
 
 pub returns : goal.returns

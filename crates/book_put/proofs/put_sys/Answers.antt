@@ -11,7 +11,7 @@ loop-j-preserved c =
     let taken = c.loop-j-test.true in
     let low = c.requires.takes_definition.0.component< in (
       omega arith,
-      elim c.if-v-lt64.branch [ then-v-lt64 w ↦ rw (w.put_row-arg-1, w.put_row) (composed_hit _ _ _ _ _ low _ _ _ taken c.loop-j.invariant.1 c.wide-v.ensures w.if-v-lt64.true w.way_told-then-v-lt64-2-1.ensures) | else-v-lt64 w ↦ rw (w.sets-is, w.numbers-is) (composed_miss _ _ _ _ _ low _ _ _ taken c.loop-j.invariant.1 c.wide-v.ensures w.if-v-lt64.false) ],
+      elim c.if-v-lt64.branch [ then-v-lt64 w ↦ rw (w.sets-is, w.numbers-is) (composed_hit _ _ _ _ _ low _ _ _ taken c.loop-j.invariant.1 c.wide-v.ensures w.if-v-lt64.true w.put_row.ensures) | else-v-lt64 w ↦ rw (w.sets-is, w.numbers-is) (composed_miss _ _ _ _ _ low _ _ _ taken c.loop-j.invariant.1 c.wide-v.ensures w.if-v-lt64.false) ],
     )
 
 pub returns : goal.returns

@@ -13,7 +13,7 @@ returns-then-required-i c = pairs_first _ _ _ _ _ _ _ _ c.args.versions.now c.ar
 
 pub loop-i-preserved : goal.loop-i-preserved
 unfolding sets_step
-loop-i-preserved c = pairs_turn _ _ _ _ _ _ _ _ c.args.versions.now c.args.required.now c.loop-i.i _ c.loop-i.invariant _ c.loop-i-test.true c.if-required-i.false (c.with_set-g.ensures (facilities_said _) (said_below _) (said_set _ (c.shared_slice_known-2-1.given c.loop-i.i).fits))
+loop-i-preserved c = pairs_turn _ _ _ _ _ _ _ _ c.args.versions.now c.args.required.now c.loop-i.i _ c.loop-i.invariant _ c.loop-i-test.true c.if-required-i.false (c.with_set-g.ensures (facilities_said _) (said_below _) (said_set _ (c.type_inv.required c.loop-i.i).fits))
 
 pub returns-then-i-required : goal.returns-then-i-required
 unfolding sets_of requirements_said sets_step

@@ -13,10 +13,11 @@ loop-start-smaller-in-Word c =
     c.in-Word.is in
     omega arith
 
--- no goal today for this:
--- loop-preserved: let w = word_within _ _ _ _ c.before.before.before.before.before.before.next-token.ensures _ _
---     c.before.before.before.before.token.given.1 in
---     omega arith
+pub loop-start-preserved-in-Word : goal.loop-start-preserved-in-Word
+loop-start-preserved-in-Word c =
+    let w = word_within _ _ _ _ c.next_token-token.ensures _ _
+    c.in-Word.is in
+    omega arith
 
 pub part-requires : goal.part-requires
 part-requires c =
@@ -35,10 +36,11 @@ loop-start-smaller-in-Quoted c =
     c.in-Quoted.is in
     omega arith
 
--- no goal today for this:
--- loop-preserved-2: let w = quoted_within _ _ _ _ c.before.before.before.before.before.before.next-token.ensures _ _
---     c.before.before.before.before.token2.given.1 in
---     omega arith
+pub loop-start-preserved-in-Quoted : goal.loop-start-preserved-in-Quoted
+loop-start-preserved-in-Quoted c =
+    let w = quoted_within _ _ _ _ c.next_token-token.ensures _ _
+    c.in-Quoted.is in
+    omega arith
 
 pub overflow_sub-end : goal.overflow_sub-end
 overflow_sub-end c =
@@ -50,12 +52,14 @@ part-requires-in-Mark c =
     let w = mark_within _ _ _ _ c.next_token-token.ensures _ _
     c.in-Mark.is in omega arith
 
--- no goal today for this:
--- loop-smaller-3: let w = mark_within _ _ _ _ c.before.before.before.before.before.before.next-token.ensures _ _
---     c.before.before.before.before.token3.given.1 in
---     omega arith
+pub loop-start-smaller : goal.loop-start-smaller
+loop-start-smaller c =
+    let w = mark_within _ _ _ _ c.next_token-token.ensures _ _
+    c.in-Mark.is in
+    omega arith
 
--- no goal today for this:
--- loop-preserved-3: let w = mark_within _ _ _ _ c.before.before.before.before.before.before.next-token.ensures _ _
---     c.before.before.before.before.token3.given.1 in
---     omega arith
+pub loop-start-preserved : goal.loop-start-preserved
+loop-start-preserved c =
+    let w = mark_within _ _ _ _ c.next_token-token.ensures _ _
+    c.in-Mark.is in
+    omega arith

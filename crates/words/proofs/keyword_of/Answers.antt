@@ -1,10 +1,11 @@
 use Rattle.sets.specs.Tests.{◌≤?◌, if◌then◌else◌}
 use Rattle.text.specs.Bytes.{bytes, keywords}
 use Rattle.names.specs.Stored.{before, name_in, table_of, up_to_last}
+use Rattle.words.specs.NameLaws.{hash_none}
 use Rattle.words.proofs.keyword_of.Goals as goal
 
--- no goal today for this:
--- None: hash_none _ _ c.before.may-be-keyword.ensures c.if1.true
+pub returns-then-not-may_be_keyword : goal.returns-then-not-may_be_keyword
+returns-then-not-may_be_keyword c = hash_none _ _ c.may_be_keyword.ensures c.if-not-may_be_keyword.true
 
 pub lookup-requires-clause-word_value : goal.lookup-requires-clause-word_value
 lookup-requires-clause-word_value c = c.requires

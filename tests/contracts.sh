@@ -3,13 +3,13 @@
 # tests/public-functions prints.
 set -euo pipefail
 cd "$(dirname "$0")/.."
-silent=$(find crates -path '*/src/*.rt' -print0 | sort -z | xargs -0 awk '
+silent=$(find crates -path '*/src/*.rt' -not -path '*/out/*' -print0 | sort -z | xargs -0 awk '
     FNR == 1 { signature = "" }
     /^[ \t]*pub (extern "C" )?fn / { signature = FILENAME ":" FNR ": " $0; promises = 0 }
     signature != "" && /ensures/ { promises = 1 }
     signature != "" && /\{[ \t]*\}?[ \t]*$/ && !/requires|ensures/ { if (!promises) print signature; signature = "" }
 ')
-count=$(find crates -path '*/src/*.rt' -print0 | xargs -0 grep -hE '^[[:space:]]*pub (extern "C" )?fn ' | wc -l)
+count=$(find crates -path '*/src/*.rt' -not -path '*/out/*' -print0 | xargs -0 grep -hE '^[[:space:]]*pub (extern "C" )?fn ' | wc -l)
 if [ -n "$silent" ]; then
     echo "public functions with no ensures:"
     echo "$silent"

@@ -1,7 +1,7 @@
 use Rattle.std.proofs.Common.{rules, arith, ap, ◌∙◌, sym}
 use Rattle.book_rules.specs.CompositionLaws.{apart_start, apart-skip, apart_turn, apart_stop, apart_end}
 use Rattle.book_rules.specs.RuleLaws.{provided_more, provided_same}
-use Rattle.book_rules.specs.WalkLaws.{is_member}
+use Rattle.book_rules.specs.WalkLaws.{is_member_lem}
 use Rattle.book.specs.ReadLaws.{spec_limits_lem}
 use Rattle.model.specs.Book.{is_member}
 use Rattle.sets.specs.Sets.{Set, bit}
@@ -13,7 +13,7 @@ pub loop-m-init : goal.loop-m-init
 loop-m-init c = (search rules, union_start _, apart_start _ _ _ _)
 
 pub returns-then-not-disjoint : goal.returns-then-not-disjoint
-returns-then-not-disjoint c = apart_stop _ _ _ _ _ _ _ c.loop-m.invariant.1 c.provides-provided.ensures c.disjoint.ensures (spec_limits_lem _ _).provided< c.loop-m-test.true (is_member _ _ _ _ _ c.members-members.ensures c.member.ensures c.if-member.true) c.if-not-disjoint.true
+returns-then-not-disjoint c = apart_stop _ _ _ _ _ _ _ c.loop-m.invariant.1 c.provides-provided.ensures c.disjoint.ensures (spec_limits_lem _ _).provided< c.loop-m-test.true (is_member_lem _ _ _ _ _ c.members-members.ensures c.member.ensures c.if-member.true) c.if-not-disjoint.true
 
 pub loop-m-preserved : goal.loop-m-preserved
 loop-m-preserved c =

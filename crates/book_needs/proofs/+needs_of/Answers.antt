@@ -2,7 +2,7 @@ use Rattle.std.proofs.Common.{rules, arith, ◌∙◌, ap}
 use Rattle.sets.specs.Sets.{bit}
 use Rattle.sets.specs.LoopLaws.{union_start}
 use Rattle.book.specs.Plain.{specs_of}
-use Rattle.book_rules.specs.WalkLaws.{needs_required, needs_high, needs_summed, member_falls, is_member, turn_taken, turn_left}
+use Rattle.book_rules.specs.WalkLaws.{needs_required, needs_high, needs_summed, member_falls, is_member_lem, turn_taken, turn_left}
 use Rattle.book_rules.specs.WalkLaws.{kept_hit, kept_more, kept_is}
 use Rattle.book_needs.proofs.+needs_of.Goals as goal
 use Rattle.book_needs.proofs.+needs_of.Goals.{else-member-2, then-member-2}
@@ -20,7 +20,7 @@ pub loop-m-init : goal.loop-m-init
 loop-m-init t c = (search rules, search rules, union_start _)
 
 pub member_version-w-requires-clause-m_value : goal.member_version-w-requires-clause-m_value
-member_version-w-requires-clause-m_value t c = is_member _ _ _ _ _ c.members-members.ensures c.member-in-loop-m.ensures c.if-member-2.true
+member_version-w-requires-clause-m_value t c = is_member_lem _ _ _ _ _ c.members-members.ensures c.member-in-loop-m.ensures c.if-member-2.true
 
 pub needs_of-requires : goal.needs_of-requires
 needs_of-requires t c =

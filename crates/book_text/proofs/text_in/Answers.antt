@@ -1,11 +1,11 @@
-use Rattle.book_text.specs.AnsweredLaws.{no_book, no_names, too_short, writes}
+use Rattle.book_text.specs.AnsweredLaws.{no_book, no_names_lem, too_short, writes}
 use Rattle.book_text.proofs.text_in.Goals as goal
 
 pub returns-then-not-passes : goal.returns-then-not-passes
 returns-then-not-passes c = no_book _ _ _ _ _ _ _ c.passes.ensures c.if-not-passes.true
 
 pub returns-then-not-names_hold : goal.returns-then-not-names_hold
-returns-then-not-names_hold c = no_names _ _ _ _ _ _ _ c.passes.ensures c.if-not-passes.false c.names_hold.ensures c.if-not-names_hold.true
+returns-then-not-names_hold c = no_names_lem _ _ _ _ _ _ _ c.passes.ensures c.if-not-passes.false c.names_hold.ensures c.if-not-names_hold.true
 
 pub returns-then-not-wrote : goal.returns-then-not-wrote
 returns-then-not-wrote c =

@@ -1,5 +1,5 @@
-use Rattle.names.specs.StoredLaws.{no_names}
+use Rattle.names.specs.StoredLaws.{no_names_lem}
 use Rattle.names.proofs.no_names.Goals as goal
 
 pub returns : goal.returns
-returns c = no_names
+returns c = no_names_lem

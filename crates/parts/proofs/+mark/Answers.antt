@@ -1,6 +1,6 @@
 use Rattle.std.proofs.Common.{rules, arith}
 use Rattle.book.specs.Plain.{plain_of}
-use Rattle.book_rules.specs.WalkLaws.{is_member}
+use Rattle.book_rules.specs.WalkLaws.{is_member_lem}
 use Rattle.parts.specs.MarkLaws.{marked_found, marking_start, marking_turn, marking_skip, marking_end, marking_is, walk_falls, walk_limits}
 use Rattle.parts.proofs.+mark.Goals as goal
 use Rattle.parts.proofs.+mark.Goals.{else-member-2, then-member-2}
@@ -12,7 +12,7 @@ pub loop-m-init : goal.loop-m-init
 loop-m-init t c = (search rules, marking_start _ _ _ _ c.requires.closed)
 
 pub member_version-w-requires-clause-m_value : goal.member_version-w-requires-clause-m_value
-member_version-w-requires-clause-m_value t c = is_member _ _ _ _ _ c.members-members.ensures c.member-in-loop-m.ensures c.if-member-2.true
+member_version-w-requires-clause-m_value t c = is_member_lem _ _ _ _ _ c.members-members.ensures c.member-in-loop-m.ensures c.if-member-2.true
 
 pub mark-requires : goal.mark-requires
 mark-requires t c =

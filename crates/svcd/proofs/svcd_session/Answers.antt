@@ -1,6 +1,6 @@
 use Rattle.std.proofs.Common.{◌∙◌, ap, arith, pos, to_z-of_z, w32, SFits, length}
 use lib.ListN.{length-replicate}
-use Rattle.svcd.specs.LeavesLaws.{leaves_keeps, leaves_short, listed, long_slice, long_text, too_long}
+use Rattle.svcd.specs.LeavesLaws.{leaves_keeps, leaves_short, listed, long_slice, long_text, too_long_lem}
 use Rattle.svcd.proofs.svcd_session.Goals as goal
 
 -- the length fits an i32
@@ -30,7 +30,7 @@ shape_of-out-then-not-l c = leaves_keeps c.list-l.ensures.leaves
 
 pub returns-then-not-l : goal.returns-then-not-l
 returns-then-not-l c =
-    let all_of = too_long _ _ c.if-text-gt-MOST_BYTES.false c.if-out-gt-MOST_BYTES.false c.list-l.ensures.leaves c.if-not-l.true in
+    let all_of = too_long_lem _ _ c.if-text-gt-MOST_BYTES.false c.if-out-gt-MOST_BYTES.false c.list-l.ensures.leaves c.if-not-l.true in
     record { value = all_of.0; out_after = all_of.1 }
 
 pub overflow_cast-result : goal.overflow_cast-result

@@ -1,5 +1,5 @@
-use Rattle.words.specs.ByteLaws.{stays_open}
+use Rattle.words.specs.ByteLaws.{stays_open_lem}
 use Rattle.words.proofs.stays_open.Goals as goal
 
 pub returns : goal.returns
-returns c = stays_open _ _
+returns c = stays_open_lem _ _

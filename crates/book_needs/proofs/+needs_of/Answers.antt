@@ -1,3 +1,4 @@
+use Rattle.std.specs.Prelude.{not}
 use Rattle.std.proofs.Common.{rules, arith, ◌∙◌, ap}
 use Rattle.sets.specs.Sets.{bit}
 use Rattle.sets.specs.LoopLaws.{union_start}
@@ -26,7 +27,7 @@ pub needs_of-requires : goal.needs_of-requires
 needs_of-requires t c =
     (
       member_falls (specs_of c.args.sets.now c.args.numbers.now) _ _ _ c.requires.sound c.is_system.ensures
-          c.if-not-is_system.false _ _ _ c.decreases c.members-members.ensures
+          (ap not c.if-not-is_system.false) _ _ _ c.decreases c.members-members.ensures
           c.member-in-loop-m.ensures c.if-member-2.true,
       (search rules, (search rules, c.loop-m.invariant.1)),
     )
@@ -42,11 +43,11 @@ loop-m-preserved t c =
 pub returns-clause-result_value : goal.returns-clause-result_value
 returns-clause-result_value t c =
     let sum = needs_summed (specs_of c.args.sets.now c.args.numbers.now) _ _ _ c.requires.sound c.is_system.ensures
-    c.if-not-is_system.false _ _ c.loop-m.invariant.0 c.loop-m-test.false c.loop-m.invariant.2 in
+    (ap not c.if-not-is_system.false) _ _ c.loop-m.invariant.0 c.loop-m-test.false c.loop-m.invariant.2 in
     sum
 
 pub returns-clause-kept_2 : goal.returns-clause-kept_2
 returns-clause-kept_2 t c =
     let sum = needs_summed (specs_of c.args.sets.now c.args.numbers.now) _ _ _ c.requires.sound c.is_system.ensures
-    c.if-not-is_system.false _ _ c.loop-m.invariant.0 c.loop-m-test.false c.loop-m.invariant.2 in
+    (ap not c.if-not-is_system.false) _ _ c.loop-m.invariant.0 c.loop-m-test.false c.loop-m.invariant.2 in
     kept_more _ _ _ _ _ _ _ c.loop-m.invariant.1 c.requires.c_bound (omega arith) c.with.ensures sum

@@ -1,4 +1,5 @@
-use Rattle.std.proofs.Common.{rules, arith}
+use Rattle.std.specs.Prelude.{not}
+use Rattle.std.proofs.Common.{rules, arith, ap}
 use Rattle.book_rules.specs.CompositionLaws.{of_system, if_composed}
 use Rattle.model.specs.Rules.{each_composition}
 use Rattle.sets.specs.LoopLaws.{all_start, all_turn, all_stop, all_end}
@@ -18,14 +19,14 @@ rule_of_system-requires-clause-kept c = c.loop-s.invariant.1
 
 pub returns-then-not-rule_of_system-clause-value : goal.returns-then-not-rule_of_system-clause-value
 unfolding each_composition of_system if_composed
-returns-then-not-rule_of_system-clause-value c = all_stop _ _ _ c.loop-s-test.true c.rule_of_system.ensures.value c.if-not-rule_of_system.true
+returns-then-not-rule_of_system-clause-value c = all_stop _ _ _ c.loop-s-test.true c.rule_of_system.ensures.value (ap not c.if-not-rule_of_system.true)
 
 pub returns-then-not-rule_of_system-clause-kept_2 : goal.returns-then-not-rule_of_system-clause-kept_2
 unfolding each_composition of_system if_composed
 returns-then-not-rule_of_system-clause-kept_2 c = c.rule_of_system.ensures.kept_2
 
 pub loop-s-preserved : goal.loop-s-preserved
-loop-s-preserved c = (omega arith, c.rule_of_system.ensures.kept_2, all_turn _ _ c.loop-s.invariant.2 c.rule_of_system.ensures.value c.if-not-rule_of_system.false)
+loop-s-preserved c = (omega arith, c.rule_of_system.ensures.kept_2, all_turn _ _ c.loop-s.invariant.2 c.rule_of_system.ensures.value (ap not c.if-not-rule_of_system.false))
 
 pub returns-clause-value : goal.returns-clause-value
 unfolding each_composition of_system if_composed

@@ -1,4 +1,5 @@
-use Rattle.std.proofs.Common.{arith}
+use Rattle.std.specs.Prelude.{not}
+use Rattle.std.proofs.Common.{arith, ap}
 use Rattle.command_outcome.specs.OutcomeLaws.{refuse, accept}
 use Rattle.command_delete.specs.DeleteLaws.{del_spec_1, del_spec_4, del_spec_18, del_spec_0}
 use Rattle.book_rules.specs.TestLaws.{passes-proper}
@@ -10,13 +11,13 @@ returns-then-c-ge32 c = refuse _ _ _ c.requires 0 (del_spec_1 _ _ c.if-c-ge32.tr
 pub returns-then-not-is_specified : goal.returns-then-not-is_specified
 returns-then-not-is_specified c =
     refuse _ _ _ c.requires 3
-    (del_spec_4 _ _ (omega (arith, c.if-c-ge32.false)) c.is_specified.ensures c.if-not-is_specified.true)
+    (del_spec_4 _ _ (omega (arith, c.if-c-ge32.false)) c.is_specified.ensures (ap not c.if-not-is_specified.true))
 
 pub returns-then-not-usable_in_none : goal.returns-then-not-usable_in_none
 returns-then-not-usable_in_none c =
     refuse _ _ _ c.requires 17
-    (del_spec_18 _ _ (omega (arith, c.if-c-ge32.false)) c.is_specified.ensures c.if-not-is_specified.false
-    c.usable_in_none.ensures c.if-not-usable_in_none.true)
+    (del_spec_18 _ _ (omega (arith, c.if-c-ge32.false)) c.is_specified.ensures (ap not c.if-not-is_specified.false)
+    c.usable_in_none.ensures (ap not c.if-not-usable_in_none.true))
 
 pub take_spec-requires : goal.take_spec-requires
 take_spec-requires c = (omega (arith, c.if-c-ge32.false), passes-proper _ _ c.requires)
@@ -24,5 +25,5 @@ take_spec-requires c = (omega (arith, c.if-c-ge32.false), passes-proper _ _ c.re
 pub returns : goal.returns
 returns c =
     accept _ _ _ c.requires
-    (del_spec_0 _ _ (omega (arith, c.if-c-ge32.false)) c.is_specified.ensures c.if-not-is_specified.false
-    c.usable_in_none.ensures c.if-not-usable_in_none.false) c.take_spec.ensures
+    (del_spec_0 _ _ (omega (arith, c.if-c-ge32.false)) c.is_specified.ensures (ap not c.if-not-is_specified.false)
+    c.usable_in_none.ensures (ap not c.if-not-usable_in_none.false)) c.take_spec.ensures

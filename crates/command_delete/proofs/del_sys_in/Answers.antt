@@ -1,4 +1,5 @@
-use Rattle.std.proofs.Common.{arith}
+use Rattle.std.specs.Prelude.{not}
+use Rattle.std.proofs.Common.{arith, ap}
 use Rattle.command_outcome.specs.OutcomeLaws.{refuse, accept}
 use Rattle.command_delete.specs.DeleteLaws.{del_sys_1, del_sys_7, del_sys_21, del_sys_0, del_sys_B4}
 use Rattle.book_rules.specs.TestLaws.{passes-proper, passes_plain, is_yes}
@@ -10,13 +11,13 @@ returns-then-c-ge32 c = refuse _ _ _ c.requires 0 (del_sys_1 _ _ c.if-c-ge32.tru
 pub returns-then-not-is_system : goal.returns-then-not-is_system
 returns-then-not-is_system c =
     refuse _ _ _ c.requires 6
-    (del_sys_7 _ _ (omega (arith, c.if-c-ge32.false)) c.is_system.ensures c.if-not-is_system.true)
+    (del_sys_7 _ _ (omega (arith, c.if-c-ge32.false)) c.is_system.ensures (ap not c.if-not-is_system.true))
 
 pub take_sys-requires-clause-s_bound : goal.take_sys-requires-clause-s_bound
 take_sys-requires-clause-s_bound c = (omega (arith, c.if-c-ge32.false), passes-proper _ _ c.requires)
 
 pub take_sys-requires-clause-s_value : goal.take_sys-requires-clause-s_value
-take_sys-requires-clause-s_value c = is_yes _ c.is_system.ensures c.if-not-is_system.false
+take_sys-requires-clause-s_value c = is_yes _ c.is_system.ensures (ap not c.if-not-is_system.false)
 
 pub b5_to_b9-requires : goal.b5_to_b9-requires
 b5_to_b9-requires c = del_sys_B4 _ _ _ (passes_plain _ _ c.requires) c.take_sys.ensures.is
@@ -24,11 +25,11 @@ b5_to_b9-requires c = del_sys_B4 _ _ _ (passes_plain _ _ c.requires) c.take_sys.
 pub returns-then-not-b5_to_b9 : goal.returns-then-not-b5_to_b9
 returns-then-not-b5_to_b9 c =
     refuse _ _ _ c.requires 20
-    (del_sys_21 _ _ _ (omega (arith, c.if-c-ge32.false)) c.is_system.ensures c.if-not-is_system.false
-    c.take_sys.ensures.is c.b5_to_b9.ensures c.if-not-b5_to_b9.true)
+    (del_sys_21 _ _ _ (omega (arith, c.if-c-ge32.false)) c.is_system.ensures (ap not c.if-not-is_system.false)
+    c.take_sys.ensures.is c.b5_to_b9.ensures (ap not c.if-not-b5_to_b9.true))
 
 pub returns : goal.returns
 returns c =
     accept _ _ _ c.requires
-    (del_sys_0 _ _ _ (omega (arith, c.if-c-ge32.false)) c.is_system.ensures c.if-not-is_system.false
-    c.take_sys.ensures.is c.b5_to_b9.ensures c.if-not-b5_to_b9.false) c.take_sys.ensures
+    (del_sys_0 _ _ _ (omega (arith, c.if-c-ge32.false)) c.is_system.ensures (ap not c.if-not-is_system.false)
+    c.take_sys.ensures.is c.b5_to_b9.ensures (ap not c.if-not-b5_to_b9.false)) c.take_sys.ensures

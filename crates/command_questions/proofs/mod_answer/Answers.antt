@@ -1,4 +1,5 @@
-use Rattle.std.proofs.Common.{◌∙◌, sym, arith, rules}
+use Rattle.std.specs.Prelude.{not}
+use Rattle.std.proofs.Common.{◌∙◌, sym, arith, rules, ap}
 use borrow.Author.Tests.{not-false, not-true}
 use Rattle.model_laws.specs.FirstNoLaws.{no_at, none_left, not_yes, too_large, yes_at}
 use Rattle.command_questions.specs.Asked.{mod_questions}
@@ -24,16 +25,16 @@ returns-then-g-2 c = sym (mod_asked _ _ _ ∙ yes_at 1 _ _ (and_in _ _ (<?_in _ 
 
 pub returns-then-not-is_specified : goal.returns-then-not-is_specified
 unfolding mod_questions
-returns-then-not-is_specified c = sym (mod_asked _ _ _ ∙ yes_at 1 _ _ (and_in _ _ (<?_in _ _ (omega (arith, c.if-c-ge32.false))) (not_in _ c.if-g.false)) ∙ yes_at 2 _ _ (some_bits 64 _ (search rules) c.if-g-eq0.false) ∙ yes_at 3 _ _ (not_in _ c.if-g-2.false) ∙ no_at 4 _ _ (sym c.is_specified.ensures ∙ not-true _ c.if-not-is_specified.true))
+returns-then-not-is_specified c = sym (mod_asked _ _ _ ∙ yes_at 1 _ _ (and_in _ _ (<?_in _ _ (omega (arith, c.if-c-ge32.false))) (not_in _ c.if-g.false)) ∙ yes_at 2 _ _ (some_bits 64 _ (search rules) c.if-g-eq0.false) ∙ yes_at 3 _ _ (not_in _ c.if-g-2.false) ∙ no_at 4 _ _ (sym c.is_specified.ensures ∙ not-true _ (ap not c.if-not-is_specified.true)))
 
 pub returns-then-is_defined : goal.returns-then-is_defined
 unfolding mod_questions
-returns-then-is_defined c = sym (mod_asked _ _ _ ∙ yes_at 1 _ _ (and_in _ _ (<?_in _ _ (omega (arith, c.if-c-ge32.false))) (not_in _ c.if-g.false)) ∙ yes_at 2 _ _ (some_bits 64 _ (search rules) c.if-g-eq0.false) ∙ yes_at 3 _ _ (not_in _ c.if-g-2.false) ∙ yes_at 4 _ _ (sym c.is_specified.ensures ∙ not-false _ c.if-not-is_specified.false) ∙ no_at 8 _ _ (not_yes _ (sym c.is_defined.ensures ∙ c.if-is_defined.true)))
+returns-then-is_defined c = sym (mod_asked _ _ _ ∙ yes_at 1 _ _ (and_in _ _ (<?_in _ _ (omega (arith, c.if-c-ge32.false))) (not_in _ c.if-g.false)) ∙ yes_at 2 _ _ (some_bits 64 _ (search rules) c.if-g-eq0.false) ∙ yes_at 3 _ _ (not_in _ c.if-g-2.false) ∙ yes_at 4 _ _ (sym c.is_specified.ensures ∙ not-false _ (ap not c.if-not-is_specified.false)) ∙ no_at 8 _ _ (not_yes _ (sym c.is_defined.ensures ∙ c.if-is_defined.true)))
 
 pub returns-then-versions-g : goal.returns-then-versions-g
 unfolding mod_questions
-returns-then-versions-g c = sym (mod_asked _ _ _ ∙ yes_at 1 _ _ (and_in _ _ (<?_in _ _ (omega (arith, c.if-c-ge32.false))) (not_in _ c.if-g.false)) ∙ yes_at 2 _ _ (some_bits 64 _ (search rules) c.if-g-eq0.false) ∙ yes_at 3 _ _ (not_in _ c.if-g-2.false) ∙ yes_at 4 _ _ (sym c.is_specified.ensures ∙ not-false _ c.if-not-is_specified.false) ∙ yes_at 8 _ _ (not_in _ (sym c.is_defined.ensures ∙ c.if-is_defined.false)) ∙ no_at 9 _ _ (exactly_no _ _ _ _ c.versions.ensures (search rules) (search rules) c.if-versions-g.true))
+returns-then-versions-g c = sym (mod_asked _ _ _ ∙ yes_at 1 _ _ (and_in _ _ (<?_in _ _ (omega (arith, c.if-c-ge32.false))) (not_in _ c.if-g.false)) ∙ yes_at 2 _ _ (some_bits 64 _ (search rules) c.if-g-eq0.false) ∙ yes_at 3 _ _ (not_in _ c.if-g-2.false) ∙ yes_at 4 _ _ (sym c.is_specified.ensures ∙ not-false _ (ap not c.if-not-is_specified.false)) ∙ yes_at 8 _ _ (not_in _ (sym c.is_defined.ensures ∙ c.if-is_defined.false)) ∙ no_at 9 _ _ (exactly_no _ _ _ _ c.versions.ensures (search rules) (search rules) c.if-versions-g.true))
 
 pub returns : goal.returns
 unfolding mod_questions
-returns c = sym (mod_asked _ _ _ ∙ yes_at 1 _ _ (and_in _ _ (<?_in _ _ (omega (arith, c.if-c-ge32.false))) (not_in _ c.if-g.false)) ∙ yes_at 2 _ _ (some_bits 64 _ (search rules) c.if-g-eq0.false) ∙ yes_at 3 _ _ (not_in _ c.if-g-2.false) ∙ yes_at 4 _ _ (sym c.is_specified.ensures ∙ not-false _ c.if-not-is_specified.false) ∙ yes_at 8 _ _ (not_in _ (sym c.is_defined.ensures ∙ c.if-is_defined.false)) ∙ yes_at 9 _ _ (exactly_yes _ _ _ _ c.versions.ensures c.if-versions-g.false) ∙ none_left)
+returns c = sym (mod_asked _ _ _ ∙ yes_at 1 _ _ (and_in _ _ (<?_in _ _ (omega (arith, c.if-c-ge32.false))) (not_in _ c.if-g.false)) ∙ yes_at 2 _ _ (some_bits 64 _ (search rules) c.if-g-eq0.false) ∙ yes_at 3 _ _ (not_in _ c.if-g-2.false) ∙ yes_at 4 _ _ (sym c.is_specified.ensures ∙ not-false _ (ap not c.if-not-is_specified.false)) ∙ yes_at 8 _ _ (not_in _ (sym c.is_defined.ensures ∙ c.if-is_defined.false)) ∙ yes_at 9 _ _ (exactly_yes _ _ _ _ c.versions.ensures c.if-versions-g.false) ∙ none_left)

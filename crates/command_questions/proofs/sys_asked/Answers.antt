@@ -1,3 +1,4 @@
+use Rattle.std.specs.Prelude.{not}
 use Rattle.std.proofs.Common.{◌∙◌, ap, sym, arith, rules}
 use borrow.Author.Tests.{not-false, not-true}
 use Rattle.model.specs.Questions.{first_no}
@@ -37,24 +38,24 @@ returns-then-u-2 c = sym (ap first_no (sys_asked_lem _ _ _ _) ∙ yes_at 1 _ _ (
 
 pub returns-then-not-is_specified : goal.returns-then-not-is_specified
 unfolding sys_questions
-returns-then-not-is_specified c = sym (ap first_no (sys_asked_lem _ _ _ _) ∙ yes_at 1 _ _ (and_in _ _ (<?_in _ _ (omega (arith, c.if-c-ge32.false))) (and_in _ _ (not_in _ c.if-u.false) (not_in _ c.if-g.false))) ∙ yes_at 2 _ _ (and_in _ _ (some_bits 64 _ (search rules) c.if-g-eq0.false) (not_in _ c.if-g-2.false)) ∙ yes_at 3 _ _ (and_in _ _ (not_in _ c.if-g-3.false) (not_in _ c.if-u-2.false)) ∙ no_at 4 _ _ (sym c.is_specified.ensures ∙ not-true _ c.if-not-is_specified.true))
+returns-then-not-is_specified c = sym (ap first_no (sys_asked_lem _ _ _ _) ∙ yes_at 1 _ _ (and_in _ _ (<?_in _ _ (omega (arith, c.if-c-ge32.false))) (and_in _ _ (not_in _ c.if-u.false) (not_in _ c.if-g.false))) ∙ yes_at 2 _ _ (and_in _ _ (some_bits 64 _ (search rules) c.if-g-eq0.false) (not_in _ c.if-g-2.false)) ∙ yes_at 3 _ _ (and_in _ _ (not_in _ c.if-g-3.false) (not_in _ c.if-u-2.false)) ∙ no_at 4 _ _ (sym c.is_specified.ensures ∙ not-true _ (ap not c.if-not-is_specified.true)))
 
 pub returns-then-is_defined : goal.returns-then-is_defined
 unfolding sys_questions
-returns-then-is_defined c = sym (ap first_no (sys_asked_lem _ _ _ _) ∙ yes_at 1 _ _ (and_in _ _ (<?_in _ _ (omega (arith, c.if-c-ge32.false))) (and_in _ _ (not_in _ c.if-u.false) (not_in _ c.if-g.false))) ∙ yes_at 2 _ _ (and_in _ _ (some_bits 64 _ (search rules) c.if-g-eq0.false) (not_in _ c.if-g-2.false)) ∙ yes_at 3 _ _ (and_in _ _ (not_in _ c.if-g-3.false) (not_in _ c.if-u-2.false)) ∙ yes_at 4 _ _ (sym c.is_specified.ensures ∙ not-false _ c.if-not-is_specified.false) ∙ no_at 8 _ _ (not_yes _ (sym c.is_defined.ensures ∙ c.if-is_defined.true)))
+returns-then-is_defined c = sym (ap first_no (sys_asked_lem _ _ _ _) ∙ yes_at 1 _ _ (and_in _ _ (<?_in _ _ (omega (arith, c.if-c-ge32.false))) (and_in _ _ (not_in _ c.if-u.false) (not_in _ c.if-g.false))) ∙ yes_at 2 _ _ (and_in _ _ (some_bits 64 _ (search rules) c.if-g-eq0.false) (not_in _ c.if-g-2.false)) ∙ yes_at 3 _ _ (and_in _ _ (not_in _ c.if-g-3.false) (not_in _ c.if-u-2.false)) ∙ yes_at 4 _ _ (sym c.is_specified.ensures ∙ not-false _ (ap not c.if-not-is_specified.false)) ∙ no_at 8 _ _ (not_yes _ (sym c.is_defined.ensures ∙ c.if-is_defined.true)))
 
 pub returns-then-versions-g : goal.returns-then-versions-g
 unfolding sys_questions
-returns-then-versions-g c = sym (ap first_no (sys_asked_lem _ _ _ _) ∙ yes_at 1 _ _ (and_in _ _ (<?_in _ _ (omega (arith, c.if-c-ge32.false))) (and_in _ _ (not_in _ c.if-u.false) (not_in _ c.if-g.false))) ∙ yes_at 2 _ _ (and_in _ _ (some_bits 64 _ (search rules) c.if-g-eq0.false) (not_in _ c.if-g-2.false)) ∙ yes_at 3 _ _ (and_in _ _ (not_in _ c.if-g-3.false) (not_in _ c.if-u-2.false)) ∙ yes_at 4 _ _ (sym c.is_specified.ensures ∙ not-false _ c.if-not-is_specified.false) ∙ yes_at 8 _ _ (not_in _ (sym c.is_defined.ensures ∙ c.if-is_defined.false)) ∙ no_at 9 _ _ (exactly_no _ _ _ _ c.versions.ensures (search rules) (search rules) c.if-versions-g.true))
+returns-then-versions-g c = sym (ap first_no (sys_asked_lem _ _ _ _) ∙ yes_at 1 _ _ (and_in _ _ (<?_in _ _ (omega (arith, c.if-c-ge32.false))) (and_in _ _ (not_in _ c.if-u.false) (not_in _ c.if-g.false))) ∙ yes_at 2 _ _ (and_in _ _ (some_bits 64 _ (search rules) c.if-g-eq0.false) (not_in _ c.if-g-2.false)) ∙ yes_at 3 _ _ (and_in _ _ (not_in _ c.if-g-3.false) (not_in _ c.if-u-2.false)) ∙ yes_at 4 _ _ (sym c.is_specified.ensures ∙ not-false _ (ap not c.if-not-is_specified.false)) ∙ yes_at 8 _ _ (not_in _ (sym c.is_defined.ensures ∙ c.if-is_defined.false)) ∙ no_at 9 _ _ (exactly_no _ _ _ _ c.versions.ensures (search rules) (search rules) c.if-versions-g.true))
 
 pub returns-then-not-all_bare : goal.returns-then-not-all_bare
 unfolding sys_questions
-returns-then-not-all_bare c = sym (ap first_no (sys_asked_lem _ _ _ _) ∙ yes_at 1 _ _ (and_in _ _ (<?_in _ _ (omega (arith, c.if-c-ge32.false))) (and_in _ _ (not_in _ c.if-u.false) (not_in _ c.if-g.false))) ∙ yes_at 2 _ _ (and_in _ _ (some_bits 64 _ (search rules) c.if-g-eq0.false) (not_in _ c.if-g-2.false)) ∙ yes_at 3 _ _ (and_in _ _ (not_in _ c.if-g-3.false) (not_in _ c.if-u-2.false)) ∙ yes_at 4 _ _ (sym c.is_specified.ensures ∙ not-false _ c.if-not-is_specified.false) ∙ yes_at 8 _ _ (not_in _ (sym c.is_defined.ensures ∙ c.if-is_defined.false)) ∙ yes_at 9 _ _ (exactly_yes _ _ _ _ c.versions.ensures c.if-versions-g.false) ∙ no_at 16 _ _ (sym (requirements_none _ _ _ c.all_bare.ensures) ∙ not-true _ c.if-not-all_bare.true))
+returns-then-not-all_bare c = sym (ap first_no (sys_asked_lem _ _ _ _) ∙ yes_at 1 _ _ (and_in _ _ (<?_in _ _ (omega (arith, c.if-c-ge32.false))) (and_in _ _ (not_in _ c.if-u.false) (not_in _ c.if-g.false))) ∙ yes_at 2 _ _ (and_in _ _ (some_bits 64 _ (search rules) c.if-g-eq0.false) (not_in _ c.if-g-2.false)) ∙ yes_at 3 _ _ (and_in _ _ (not_in _ c.if-g-3.false) (not_in _ c.if-u-2.false)) ∙ yes_at 4 _ _ (sym c.is_specified.ensures ∙ not-false _ (ap not c.if-not-is_specified.false)) ∙ yes_at 8 _ _ (not_in _ (sym c.is_defined.ensures ∙ c.if-is_defined.false)) ∙ yes_at 9 _ _ (exactly_yes _ _ _ _ c.versions.ensures c.if-versions-g.false) ∙ no_at 16 _ _ (sym (requirements_none _ _ _ c.all_bare.ensures) ∙ not-true _ (ap not c.if-not-all_bare.true)))
 
 pub returns-then-not-subset : goal.returns-then-not-subset
 unfolding sys_questions
-returns-then-not-subset c = sym (ap first_no (sys_asked_lem _ _ _ _) ∙ yes_at 1 _ _ (and_in _ _ (<?_in _ _ (omega (arith, c.if-c-ge32.false))) (and_in _ _ (not_in _ c.if-u.false) (not_in _ c.if-g.false))) ∙ yes_at 2 _ _ (and_in _ _ (some_bits 64 _ (search rules) c.if-g-eq0.false) (not_in _ c.if-g-2.false)) ∙ yes_at 3 _ _ (and_in _ _ (not_in _ c.if-g-3.false) (not_in _ c.if-u-2.false)) ∙ yes_at 4 _ _ (sym c.is_specified.ensures ∙ not-false _ c.if-not-is_specified.false) ∙ yes_at 8 _ _ (not_in _ (sym c.is_defined.ensures ∙ c.if-is_defined.false)) ∙ yes_at 9 _ _ (exactly_yes _ _ _ _ c.versions.ensures c.if-versions-g.false) ∙ yes_at 16 _ _ (sym (requirements_none _ _ _ c.all_bare.ensures) ∙ not-false _ c.if-not-all_bare.false) ∙ no_at 17 _ _ (sym (specified_is _ _ c.below_32.ensures _ _ c.specified_set.ensures c.subset.ensures) ∙ not-true _ c.if-not-subset.true))
+returns-then-not-subset c = sym (ap first_no (sys_asked_lem _ _ _ _) ∙ yes_at 1 _ _ (and_in _ _ (<?_in _ _ (omega (arith, c.if-c-ge32.false))) (and_in _ _ (not_in _ c.if-u.false) (not_in _ c.if-g.false))) ∙ yes_at 2 _ _ (and_in _ _ (some_bits 64 _ (search rules) c.if-g-eq0.false) (not_in _ c.if-g-2.false)) ∙ yes_at 3 _ _ (and_in _ _ (not_in _ c.if-g-3.false) (not_in _ c.if-u-2.false)) ∙ yes_at 4 _ _ (sym c.is_specified.ensures ∙ not-false _ (ap not c.if-not-is_specified.false)) ∙ yes_at 8 _ _ (not_in _ (sym c.is_defined.ensures ∙ c.if-is_defined.false)) ∙ yes_at 9 _ _ (exactly_yes _ _ _ _ c.versions.ensures c.if-versions-g.false) ∙ yes_at 16 _ _ (sym (requirements_none _ _ _ c.all_bare.ensures) ∙ not-false _ (ap not c.if-not-all_bare.false)) ∙ no_at 17 _ _ (sym (specified_is _ _ c.below_32.ensures _ _ c.specified_set.ensures c.subset.ensures) ∙ not-true _ (ap not c.if-not-subset.true)))
 
 pub returns : goal.returns
 unfolding sys_questions
-returns c = sym (ap first_no (sys_asked_lem _ _ _ _) ∙ yes_at 1 _ _ (and_in _ _ (<?_in _ _ (omega (arith, c.if-c-ge32.false))) (and_in _ _ (not_in _ c.if-u.false) (not_in _ c.if-g.false))) ∙ yes_at 2 _ _ (and_in _ _ (some_bits 64 _ (search rules) c.if-g-eq0.false) (not_in _ c.if-g-2.false)) ∙ yes_at 3 _ _ (and_in _ _ (not_in _ c.if-g-3.false) (not_in _ c.if-u-2.false)) ∙ yes_at 4 _ _ (sym c.is_specified.ensures ∙ not-false _ c.if-not-is_specified.false) ∙ yes_at 8 _ _ (not_in _ (sym c.is_defined.ensures ∙ c.if-is_defined.false)) ∙ yes_at 9 _ _ (exactly_yes _ _ _ _ c.versions.ensures c.if-versions-g.false) ∙ yes_at 16 _ _ (sym (requirements_none _ _ _ c.all_bare.ensures) ∙ not-false _ c.if-not-all_bare.false) ∙ yes_at 17 _ _ (sym (specified_is _ _ c.below_32.ensures _ _ c.specified_set.ensures c.subset.ensures) ∙ not-false _ c.if-not-subset.false) ∙ none_left)
+returns c = sym (ap first_no (sys_asked_lem _ _ _ _) ∙ yes_at 1 _ _ (and_in _ _ (<?_in _ _ (omega (arith, c.if-c-ge32.false))) (and_in _ _ (not_in _ c.if-u.false) (not_in _ c.if-g.false))) ∙ yes_at 2 _ _ (and_in _ _ (some_bits 64 _ (search rules) c.if-g-eq0.false) (not_in _ c.if-g-2.false)) ∙ yes_at 3 _ _ (and_in _ _ (not_in _ c.if-g-3.false) (not_in _ c.if-u-2.false)) ∙ yes_at 4 _ _ (sym c.is_specified.ensures ∙ not-false _ (ap not c.if-not-is_specified.false)) ∙ yes_at 8 _ _ (not_in _ (sym c.is_defined.ensures ∙ c.if-is_defined.false)) ∙ yes_at 9 _ _ (exactly_yes _ _ _ _ c.versions.ensures c.if-versions-g.false) ∙ yes_at 16 _ _ (sym (requirements_none _ _ _ c.all_bare.ensures) ∙ not-false _ (ap not c.if-not-all_bare.false)) ∙ yes_at 17 _ _ (sym (specified_is _ _ c.below_32.ensures _ _ c.specified_set.ensures c.subset.ensures) ∙ not-false _ (ap not c.if-not-subset.false)) ∙ none_left)

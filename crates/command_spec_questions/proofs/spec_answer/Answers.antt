@@ -1,4 +1,5 @@
-use Rattle.std.proofs.Common.{◌∙◌, sym, arith, rules}
+use Rattle.std.specs.Prelude.{not}
+use Rattle.std.proofs.Common.{◌∙◌, sym, arith, rules, ap}
 use borrow.Author.Tests.{not-false, not-true}
 use Rattle.model_laws.specs.FirstNoLaws.{no_at, none_left, not_yes, too_large, yes_at}
 use Rattle.command_questions.specs.Asked.{spec_questions}
@@ -36,12 +37,12 @@ returns-then-count-gt8 c = sym (spec_asked _ _ _ _ _ ∙ yes_at 1 _ _ (and_in _ 
 
 pub returns-then-not-all_free : goal.returns-then-not-all_free
 unfolding spec_questions
-returns-then-not-all_free c = sym (spec_asked _ _ _ _ _ ∙ yes_at 1 _ _ (and_in _ _ (<?_in _ _ (omega (arith, c.if-c-ge32.false))) (and_in _ _ (not_in _ c.if-g.false) (<?_in _ _ (omega (arith, c.if-standard-ge64.false))))) ∙ yes_at 2 _ _ (some_bits 64 _ (search rules) c.if-g-eq0.false) ∙ yes_at 3 _ _ (not_in _ c.if-g-2.false) ∙ yes_at 5 _ _ (not_in _ (sym c.is_specified.ensures ∙ c.if-is_specified.false)) ∙ yes_at 12 _ _ (few_bits _ _ c.count.ensures (omega (arith, c.if-count-gt8.false))) ∙ no_at 13 _ _ (sym (c.all_free.ensures ∙ all-free_is _ _) ∙ not-true _ c.if-not-all_free.true))
+returns-then-not-all_free c = sym (spec_asked _ _ _ _ _ ∙ yes_at 1 _ _ (and_in _ _ (<?_in _ _ (omega (arith, c.if-c-ge32.false))) (and_in _ _ (not_in _ c.if-g.false) (<?_in _ _ (omega (arith, c.if-standard-ge64.false))))) ∙ yes_at 2 _ _ (some_bits 64 _ (search rules) c.if-g-eq0.false) ∙ yes_at 3 _ _ (not_in _ c.if-g-2.false) ∙ yes_at 5 _ _ (not_in _ (sym c.is_specified.ensures ∙ c.if-is_specified.false)) ∙ yes_at 12 _ _ (few_bits _ _ c.count.ensures (omega (arith, c.if-count-gt8.false))) ∙ no_at 13 _ _ (sym (c.all_free.ensures ∙ all-free_is _ _) ∙ not-true _ (ap not c.if-not-all_free.true)))
 
 pub returns-then-not-member : goal.returns-then-not-member
 unfolding spec_questions
-returns-then-not-member c = sym (spec_asked _ _ _ _ _ ∙ yes_at 1 _ _ (and_in _ _ (<?_in _ _ (omega (arith, c.if-c-ge32.false))) (and_in _ _ (not_in _ c.if-g.false) (<?_in _ _ (omega (arith, c.if-standard-ge64.false))))) ∙ yes_at 2 _ _ (some_bits 64 _ (search rules) c.if-g-eq0.false) ∙ yes_at 3 _ _ (not_in _ c.if-g-2.false) ∙ yes_at 5 _ _ (not_in _ (sym c.is_specified.ensures ∙ c.if-is_specified.false)) ∙ yes_at 12 _ _ (few_bits _ _ c.count.ensures (omega (arith, c.if-count-gt8.false))) ∙ yes_at 13 _ _ (sym (c.all_free.ensures ∙ all-free_is _ _) ∙ not-false _ c.if-not-all_free.false) ∙ no_at 14 _ _ (sym c.member.ensures ∙ not-true _ c.if-not-member.true))
+returns-then-not-member c = sym (spec_asked _ _ _ _ _ ∙ yes_at 1 _ _ (and_in _ _ (<?_in _ _ (omega (arith, c.if-c-ge32.false))) (and_in _ _ (not_in _ c.if-g.false) (<?_in _ _ (omega (arith, c.if-standard-ge64.false))))) ∙ yes_at 2 _ _ (some_bits 64 _ (search rules) c.if-g-eq0.false) ∙ yes_at 3 _ _ (not_in _ c.if-g-2.false) ∙ yes_at 5 _ _ (not_in _ (sym c.is_specified.ensures ∙ c.if-is_specified.false)) ∙ yes_at 12 _ _ (few_bits _ _ c.count.ensures (omega (arith, c.if-count-gt8.false))) ∙ yes_at 13 _ _ (sym (c.all_free.ensures ∙ all-free_is _ _) ∙ not-false _ (ap not c.if-not-all_free.false)) ∙ no_at 14 _ _ (sym c.member.ensures ∙ not-true _ (ap not c.if-not-member.true)))
 
 pub returns : goal.returns
 unfolding spec_questions
-returns c = sym (spec_asked _ _ _ _ _ ∙ yes_at 1 _ _ (and_in _ _ (<?_in _ _ (omega (arith, c.if-c-ge32.false))) (and_in _ _ (not_in _ c.if-g.false) (<?_in _ _ (omega (arith, c.if-standard-ge64.false))))) ∙ yes_at 2 _ _ (some_bits 64 _ (search rules) c.if-g-eq0.false) ∙ yes_at 3 _ _ (not_in _ c.if-g-2.false) ∙ yes_at 5 _ _ (not_in _ (sym c.is_specified.ensures ∙ c.if-is_specified.false)) ∙ yes_at 12 _ _ (few_bits _ _ c.count.ensures (omega (arith, c.if-count-gt8.false))) ∙ yes_at 13 _ _ (sym (c.all_free.ensures ∙ all-free_is _ _) ∙ not-false _ c.if-not-all_free.false) ∙ yes_at 14 _ _ (sym c.member.ensures ∙ not-false _ c.if-not-member.false) ∙ none_left)
+returns c = sym (spec_asked _ _ _ _ _ ∙ yes_at 1 _ _ (and_in _ _ (<?_in _ _ (omega (arith, c.if-c-ge32.false))) (and_in _ _ (not_in _ c.if-g.false) (<?_in _ _ (omega (arith, c.if-standard-ge64.false))))) ∙ yes_at 2 _ _ (some_bits 64 _ (search rules) c.if-g-eq0.false) ∙ yes_at 3 _ _ (not_in _ c.if-g-2.false) ∙ yes_at 5 _ _ (not_in _ (sym c.is_specified.ensures ∙ c.if-is_specified.false)) ∙ yes_at 12 _ _ (few_bits _ _ c.count.ensures (omega (arith, c.if-count-gt8.false))) ∙ yes_at 13 _ _ (sym (c.all_free.ensures ∙ all-free_is _ _) ∙ not-false _ (ap not c.if-not-all_free.false)) ∙ yes_at 14 _ _ (sym c.member.ensures ∙ not-false _ (ap not c.if-not-member.false)) ∙ none_left)

@@ -1,4 +1,5 @@
-use Rattle.std.proofs.Common.{◌∙◌, sym, arith}
+use Rattle.std.specs.Prelude.{not}
+use Rattle.std.proofs.Common.{◌∙◌, sym, arith, ap}
 use borrow.Author.Tests.{not-false, not-true}
 use Rattle.model_laws.specs.FirstNoLaws.{no_at, none_left, not_yes, too_large, yes_at}
 use Rattle.command_lists.specs.Answers.{modvar_answer}
@@ -20,20 +21,20 @@ returns-then-i-ge256 c = sym (no_at 1 _ _ (and-true _ _ (<?_in _ _ (omega (arith
 
 pub returns-then-not-is_module : goal.returns-then-not-is_module
 unfolding modvar_answer
-returns-then-not-is_module c = sym (yes_at 1 _ _ (and_in _ _ (<?_in _ _ (omega (arith, c.if-c-ge32.false))) (and_in _ _ (<?_in _ _ (omega (arith, c.if-v-ge64.false))) (<?_in _ _ (omega (arith, c.if-i-ge256.false))))) ∙ no_at 6 _ _ (sym c.is_module.ensures ∙ not-true _ c.if-not-is_module.true))
+returns-then-not-is_module c = sym (yes_at 1 _ _ (and_in _ _ (<?_in _ _ (omega (arith, c.if-c-ge32.false))) (and_in _ _ (<?_in _ _ (omega (arith, c.if-v-ge64.false))) (<?_in _ _ (omega (arith, c.if-i-ge256.false))))) ∙ no_at 6 _ _ (sym c.is_module.ensures ∙ not-true _ (ap not c.if-not-is_module.true)))
 
 pub returns-then-has_version : goal.returns-then-has_version
 unfolding modvar_answer
-returns-then-has_version c = sym (yes_at 1 _ _ (and_in _ _ (<?_in _ _ (omega (arith, c.if-c-ge32.false))) (and_in _ _ (<?_in _ _ (omega (arith, c.if-v-ge64.false))) (<?_in _ _ (omega (arith, c.if-i-ge256.false))))) ∙ yes_at 6 _ _ (sym c.is_module.ensures ∙ not-false _ c.if-not-is_module.false) ∙ no_at 11 _ _ (not_yes _ (sym c.has_version.ensures ∙ c.if-has_version.true)))
+returns-then-has_version c = sym (yes_at 1 _ _ (and_in _ _ (<?_in _ _ (omega (arith, c.if-c-ge32.false))) (and_in _ _ (<?_in _ _ (omega (arith, c.if-v-ge64.false))) (<?_in _ _ (omega (arith, c.if-i-ge256.false))))) ∙ yes_at 6 _ _ (sym c.is_module.ensures ∙ not-false _ (ap not c.if-not-is_module.false)) ∙ no_at 11 _ _ (not_yes _ (sym c.has_version.ensures ∙ c.if-has_version.true)))
 
 pub returns-then-not-has_room : goal.returns-then-not-has_room
 unfolding modvar_answer
-returns-then-not-has_room c = sym (yes_at 1 _ _ (and_in _ _ (<?_in _ _ (omega (arith, c.if-c-ge32.false))) (and_in _ _ (<?_in _ _ (omega (arith, c.if-v-ge64.false))) (<?_in _ _ (omega (arith, c.if-i-ge256.false))))) ∙ yes_at 6 _ _ (sym c.is_module.ensures ∙ not-false _ c.if-not-is_module.false) ∙ yes_at 11 _ _ (not_in _ (sym c.has_version.ensures ∙ c.if-has_version.false)) ∙ no_at 12 _ _ (sym c.has_room.ensures ∙ not-true _ c.if-not-has_room.true))
+returns-then-not-has_room c = sym (yes_at 1 _ _ (and_in _ _ (<?_in _ _ (omega (arith, c.if-c-ge32.false))) (and_in _ _ (<?_in _ _ (omega (arith, c.if-v-ge64.false))) (<?_in _ _ (omega (arith, c.if-i-ge256.false))))) ∙ yes_at 6 _ _ (sym c.is_module.ensures ∙ not-false _ (ap not c.if-not-is_module.false)) ∙ yes_at 11 _ _ (not_in _ (sym c.has_version.ensures ∙ c.if-has_version.false)) ∙ no_at 12 _ _ (sym c.has_room.ensures ∙ not-true _ (ap not c.if-not-has_room.true)))
 
 pub returns-then-not-disjoint : goal.returns-then-not-disjoint
 unfolding modvar_answer
-returns-then-not-disjoint c = sym (yes_at 1 _ _ (and_in _ _ (<?_in _ _ (omega (arith, c.if-c-ge32.false))) (and_in _ _ (<?_in _ _ (omega (arith, c.if-v-ge64.false))) (<?_in _ _ (omega (arith, c.if-i-ge256.false))))) ∙ yes_at 6 _ _ (sym c.is_module.ensures ∙ not-false _ c.if-not-is_module.false) ∙ yes_at 11 _ _ (not_in _ (sym c.has_version.ensures ∙ c.if-has_version.false)) ∙ yes_at 12 _ _ (sym c.has_room.ensures ∙ not-false _ c.if-not-has_room.false) ∙ no_at 13 _ _ (sym (provided_free _ _ _ _ c.provides.ensures c.disjoint.ensures) ∙ not-true _ c.if-not-disjoint.true))
+returns-then-not-disjoint c = sym (yes_at 1 _ _ (and_in _ _ (<?_in _ _ (omega (arith, c.if-c-ge32.false))) (and_in _ _ (<?_in _ _ (omega (arith, c.if-v-ge64.false))) (<?_in _ _ (omega (arith, c.if-i-ge256.false))))) ∙ yes_at 6 _ _ (sym c.is_module.ensures ∙ not-false _ (ap not c.if-not-is_module.false)) ∙ yes_at 11 _ _ (not_in _ (sym c.has_version.ensures ∙ c.if-has_version.false)) ∙ yes_at 12 _ _ (sym c.has_room.ensures ∙ not-false _ (ap not c.if-not-has_room.false)) ∙ no_at 13 _ _ (sym (provided_free _ _ _ _ c.provides.ensures c.disjoint.ensures) ∙ not-true _ (ap not c.if-not-disjoint.true)))
 
 pub returns : goal.returns
 unfolding modvar_answer
-returns c = sym (yes_at 1 _ _ (and_in _ _ (<?_in _ _ (omega (arith, c.if-c-ge32.false))) (and_in _ _ (<?_in _ _ (omega (arith, c.if-v-ge64.false))) (<?_in _ _ (omega (arith, c.if-i-ge256.false))))) ∙ yes_at 6 _ _ (sym c.is_module.ensures ∙ not-false _ c.if-not-is_module.false) ∙ yes_at 11 _ _ (not_in _ (sym c.has_version.ensures ∙ c.if-has_version.false)) ∙ yes_at 12 _ _ (sym c.has_room.ensures ∙ not-false _ c.if-not-has_room.false) ∙ yes_at 13 _ _ (sym (provided_free _ _ _ _ c.provides.ensures c.disjoint.ensures) ∙ not-false _ c.if-not-disjoint.false) ∙ none_left)
+returns c = sym (yes_at 1 _ _ (and_in _ _ (<?_in _ _ (omega (arith, c.if-c-ge32.false))) (and_in _ _ (<?_in _ _ (omega (arith, c.if-v-ge64.false))) (<?_in _ _ (omega (arith, c.if-i-ge256.false))))) ∙ yes_at 6 _ _ (sym c.is_module.ensures ∙ not-false _ (ap not c.if-not-is_module.false)) ∙ yes_at 11 _ _ (not_in _ (sym c.has_version.ensures ∙ c.if-has_version.false)) ∙ yes_at 12 _ _ (sym c.has_room.ensures ∙ not-false _ (ap not c.if-not-has_room.false)) ∙ yes_at 13 _ _ (sym (provided_free _ _ _ _ c.provides.ensures c.disjoint.ensures) ∙ not-false _ (ap not c.if-not-disjoint.false)) ∙ none_left)

@@ -1,3 +1,4 @@
+use Rattle.std.specs.Prelude.{not}
 use Rattle.std.proofs.Common.{◌∙◌, ap, sym, arith, rules}
 use borrow.Author.Tests.{not-false, not-true}
 use Rattle.model.specs.Questions.{first_no}
@@ -29,16 +30,16 @@ returns-then-g-2 c = sym (ap first_no (sysvar_asked_lem _ _ _ _) ∙ yes_at 1 _ 
 
 pub returns-then-not-is_system : goal.returns-then-not-is_system
 unfolding sysvar_questions
-returns-then-not-is_system c = sym (ap first_no (sysvar_asked_lem _ _ _ _) ∙ yes_at 1 _ _ (and_in _ _ (<?_in _ _ (omega (arith, c.if-c-ge32.false))) (and_in _ _ (<?_in _ _ (omega (arith, c.if-v-ge64.false))) (not_in _ c.if-g.false))) ∙ yes_at 2 _ _ (some_low _ _ c.below_32.ensures (search rules) c.if-below_32-eq0.false) ∙ yes_at 3 _ _ (not_in _ c.if-g-2.false) ∙ no_at 7 _ _ (sym c.is_system.ensures ∙ not-true _ c.if-not-is_system.true))
+returns-then-not-is_system c = sym (ap first_no (sysvar_asked_lem _ _ _ _) ∙ yes_at 1 _ _ (and_in _ _ (<?_in _ _ (omega (arith, c.if-c-ge32.false))) (and_in _ _ (<?_in _ _ (omega (arith, c.if-v-ge64.false))) (not_in _ c.if-g.false))) ∙ yes_at 2 _ _ (some_low _ _ c.below_32.ensures (search rules) c.if-below_32-eq0.false) ∙ yes_at 3 _ _ (not_in _ c.if-g-2.false) ∙ no_at 7 _ _ (sym c.is_system.ensures ∙ not-true _ (ap not c.if-not-is_system.true)))
 
 pub returns-then-has_version : goal.returns-then-has_version
 unfolding sysvar_questions
-returns-then-has_version c = sym (ap first_no (sysvar_asked_lem _ _ _ _) ∙ yes_at 1 _ _ (and_in _ _ (<?_in _ _ (omega (arith, c.if-c-ge32.false))) (and_in _ _ (<?_in _ _ (omega (arith, c.if-v-ge64.false))) (not_in _ c.if-g.false))) ∙ yes_at 2 _ _ (some_low _ _ c.below_32.ensures (search rules) c.if-below_32-eq0.false) ∙ yes_at 3 _ _ (not_in _ c.if-g-2.false) ∙ yes_at 7 _ _ (sym c.is_system.ensures ∙ not-false _ c.if-not-is_system.false) ∙ no_at 11 _ _ (not_yes _ (sym c.has_version.ensures ∙ c.if-has_version.true)))
+returns-then-has_version c = sym (ap first_no (sysvar_asked_lem _ _ _ _) ∙ yes_at 1 _ _ (and_in _ _ (<?_in _ _ (omega (arith, c.if-c-ge32.false))) (and_in _ _ (<?_in _ _ (omega (arith, c.if-v-ge64.false))) (not_in _ c.if-g.false))) ∙ yes_at 2 _ _ (some_low _ _ c.below_32.ensures (search rules) c.if-below_32-eq0.false) ∙ yes_at 3 _ _ (not_in _ c.if-g-2.false) ∙ yes_at 7 _ _ (sym c.is_system.ensures ∙ not-false _ (ap not c.if-not-is_system.false)) ∙ no_at 11 _ _ (not_yes _ (sym c.has_version.ensures ∙ c.if-has_version.true)))
 
 pub returns-then-not-has_room : goal.returns-then-not-has_room
 unfolding sysvar_questions
-returns-then-not-has_room c = sym (ap first_no (sysvar_asked_lem _ _ _ _) ∙ yes_at 1 _ _ (and_in _ _ (<?_in _ _ (omega (arith, c.if-c-ge32.false))) (and_in _ _ (<?_in _ _ (omega (arith, c.if-v-ge64.false))) (not_in _ c.if-g.false))) ∙ yes_at 2 _ _ (some_low _ _ c.below_32.ensures (search rules) c.if-below_32-eq0.false) ∙ yes_at 3 _ _ (not_in _ c.if-g-2.false) ∙ yes_at 7 _ _ (sym c.is_system.ensures ∙ not-false _ c.if-not-is_system.false) ∙ yes_at 11 _ _ (not_in _ (sym c.has_version.ensures ∙ c.if-has_version.false)) ∙ no_at 12 _ _ (sym c.has_room.ensures ∙ not-true _ c.if-not-has_room.true))
+returns-then-not-has_room c = sym (ap first_no (sysvar_asked_lem _ _ _ _) ∙ yes_at 1 _ _ (and_in _ _ (<?_in _ _ (omega (arith, c.if-c-ge32.false))) (and_in _ _ (<?_in _ _ (omega (arith, c.if-v-ge64.false))) (not_in _ c.if-g.false))) ∙ yes_at 2 _ _ (some_low _ _ c.below_32.ensures (search rules) c.if-below_32-eq0.false) ∙ yes_at 3 _ _ (not_in _ c.if-g-2.false) ∙ yes_at 7 _ _ (sym c.is_system.ensures ∙ not-false _ (ap not c.if-not-is_system.false)) ∙ yes_at 11 _ _ (not_in _ (sym c.has_version.ensures ∙ c.if-has_version.false)) ∙ no_at 12 _ _ (sym c.has_room.ensures ∙ not-true _ (ap not c.if-not-has_room.true)))
 
 pub returns : goal.returns
 unfolding sysvar_questions
-returns c = sym (ap first_no (sysvar_asked_lem _ _ _ _) ∙ yes_at 1 _ _ (and_in _ _ (<?_in _ _ (omega (arith, c.if-c-ge32.false))) (and_in _ _ (<?_in _ _ (omega (arith, c.if-v-ge64.false))) (not_in _ c.if-g.false))) ∙ yes_at 2 _ _ (some_low _ _ c.below_32.ensures (search rules) c.if-below_32-eq0.false) ∙ yes_at 3 _ _ (not_in _ c.if-g-2.false) ∙ yes_at 7 _ _ (sym c.is_system.ensures ∙ not-false _ c.if-not-is_system.false) ∙ yes_at 11 _ _ (not_in _ (sym c.has_version.ensures ∙ c.if-has_version.false)) ∙ yes_at 12 _ _ (sym c.has_room.ensures ∙ not-false _ c.if-not-has_room.false) ∙ none_left)
+returns c = sym (ap first_no (sysvar_asked_lem _ _ _ _) ∙ yes_at 1 _ _ (and_in _ _ (<?_in _ _ (omega (arith, c.if-c-ge32.false))) (and_in _ _ (<?_in _ _ (omega (arith, c.if-v-ge64.false))) (not_in _ c.if-g.false))) ∙ yes_at 2 _ _ (some_low _ _ c.below_32.ensures (search rules) c.if-below_32-eq0.false) ∙ yes_at 3 _ _ (not_in _ c.if-g-2.false) ∙ yes_at 7 _ _ (sym c.is_system.ensures ∙ not-false _ (ap not c.if-not-is_system.false)) ∙ yes_at 11 _ _ (not_in _ (sym c.has_version.ensures ∙ c.if-has_version.false)) ∙ yes_at 12 _ _ (sym c.has_room.ensures ∙ not-false _ (ap not c.if-not-has_room.false)) ∙ none_left)

@@ -1,4 +1,5 @@
-use Rattle.std.proofs.Common.{◌∙◌, sym}
+use Rattle.std.specs.Prelude.{not}
+use Rattle.std.proofs.Common.{◌∙◌, sym, ap}
 use Rattle.command_outcome.specs.OutcomeLaws.{refuse_25}
 use Rattle.command_outcome.specs.Calls.{command_of}
 use Rattle.command_lists.specs.Said.{compositions_said}
@@ -7,10 +8,10 @@ use borrow.Author.Tests.{not-true}
 use Rattle.commands.proofs.add_sys.Goals as goal
 
 pub returns-then-not-passes : goal.returns-then-not-passes
-returns-then-not-passes c = refuse_25 _ _ _ (sym c.passes.ensures ∙ not-true _ c.if-not-passes.true)
+returns-then-not-passes c = refuse_25 _ _ _ (sym c.passes.ensures ∙ not-true _ (ap not c.if-not-passes.true))
 
 pub add_sys_in-answer-requires : goal.add_sys_in-answer-requires
-add_sys_in-answer-requires c = is_yes _ c.passes.ensures c.if-not-passes.false
+add_sys_in-answer-requires c = is_yes _ c.passes.ensures (ap not c.if-not-passes.false)
 
 pub returns : goal.returns
 unfolding command_of

@@ -1,14 +1,15 @@
-use Rattle.std.proofs.Common.{◌∙◌, sym}
+use Rattle.std.specs.Prelude.{not}
+use Rattle.std.proofs.Common.{◌∙◌, sym, ap}
 use Rattle.command_outcome.specs.OutcomeLaws.{refuse_25}
 use Rattle.book_rules.specs.TestLaws.{is_yes}
 use borrow.Author.Tests.{not-true}
 use Rattle.commands.proofs.del_spec.Goals as goal
 
 pub returns-then-not-passes : goal.returns-then-not-passes
-returns-then-not-passes c = refuse_25 _ _ _ (sym c.passes.ensures ∙ not-true _ c.if-not-passes.true)
+returns-then-not-passes c = refuse_25 _ _ _ (sym c.passes.ensures ∙ not-true _ (ap not c.if-not-passes.true))
 
 pub del_spec_in-answer-requires : goal.del_spec_in-answer-requires
-del_spec_in-answer-requires c = is_yes _ c.passes.ensures c.if-not-passes.false
+del_spec_in-answer-requires c = is_yes _ c.passes.ensures (ap not c.if-not-passes.false)
 
 pub returns : goal.returns
 returns c = c.del_spec_in-answer.ensures

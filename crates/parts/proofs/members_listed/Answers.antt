@@ -1,4 +1,5 @@
-use Rattle.std.proofs.Common.{rules, arith}
+use Rattle.std.specs.Prelude.{not}
+use Rattle.std.proofs.Common.{rules, arith, ap}
 use Rattle.sets.specs.LoopLaws.{all_start, all_turn, all_stop, all_end}
 use Rattle.parts.specs.Due.{members_in}
 use Rattle.parts.proofs.members_listed.Goals as goal
@@ -17,10 +18,10 @@ member_listed-requires-clause-members_value c = c.members-members.ensures
 
 pub returns-then-not-member_listed : goal.returns-then-not-member_listed
 unfolding members_in
-returns-then-not-member_listed c = all_stop 32 _ _ c.loop-e-test.true c.member_listed.ensures c.if-not-member_listed.true
+returns-then-not-member_listed c = all_stop 32 _ _ c.loop-e-test.true c.member_listed.ensures (ap not c.if-not-member_listed.true)
 
 pub loop-e-preserved : goal.loop-e-preserved
-loop-e-preserved c = (omega arith, all_turn _ _ c.loop-e.invariant.1 c.member_listed.ensures c.if-not-member_listed.false)
+loop-e-preserved c = (omega arith, all_turn _ _ c.loop-e.invariant.1 c.member_listed.ensures (ap not c.if-not-member_listed.false))
 
 pub returns : goal.returns
 unfolding members_in

@@ -11,10 +11,10 @@ unfolding valid_implementation
 valid-short w {r} e n = and_l _ _ (sym e ∙ not-false r n)
 
 pub enter-requires-clause-word_value : goal.enter-requires-clause-word_value
-enter-requires-clause-word_value c = valid-short _ c.is_valid_implementation.ensures c.if-not-is_valid_implementation.false
+enter-requires-clause-word_value c = valid-short _ c.is_valid_implementation.ensures (ap not c.if-not-is_valid_implementation.false)
 
 pub returns : goal.returns
 returns c =
     let p = c.requires in
     ap (every non_empty) c.enter.ensures.names_after
-    ∙ with_held _ _ _ p.names_value (valid-short _ c.is_valid_implementation.ensures c.if-not-is_valid_implementation.false)
+    ∙ with_held _ _ _ p.names_value (valid-short _ c.is_valid_implementation.ensures (ap not c.if-not-is_valid_implementation.false))

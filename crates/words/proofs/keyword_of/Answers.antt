@@ -1,3 +1,5 @@
+use Rattle.std.specs.Prelude.{not}
+use Rattle.std.proofs.Common.{ap}
 use Rattle.sets.specs.Tests.{◌≤?◌, if◌then◌else◌}
 use Rattle.text.specs.Bytes.{bytes, keywords}
 use Rattle.names.specs.Stored.{before, name_in, table_of, up_to_last}
@@ -5,7 +7,7 @@ use Rattle.words.specs.NameLaws.{hash_none}
 use Rattle.words.proofs.keyword_of.Goals as goal
 
 pub returns-then-not-may_be_keyword : goal.returns-then-not-may_be_keyword
-returns-then-not-may_be_keyword c = hash_none _ _ c.may_be_keyword.ensures c.if-not-may_be_keyword.true
+returns-then-not-may_be_keyword c = hash_none _ _ c.may_be_keyword.ensures (ap not c.if-not-may_be_keyword.true)
 
 pub lookup-requires-clause-word_value : goal.lookup-requires-clause-word_value
 lookup-requires-clause-word_value c = c.requires

@@ -1,6 +1,7 @@
 use Rattle.std.proofs.Common.{arith, length-take, length-drop}
 use Rattle.names.specs.PlaceLaws.{short_length}
 use Rattle.names.specs.StoredLaws.{put_name}
+use Rattle.seqs.specs.RestLaws.{copied_whole}
 use Rattle.names.proofs.put.Goals as goal
 
 pub copy-requires : goal.copy-requires
@@ -14,5 +15,4 @@ overflow_cast-names c = omega (arith, (short_length _ c.requires.word_value).1)
 pub returns : goal.returns
 returns c =
     let p = c.requires in
-    let copied = c.copy in
-    put_name _ _ _ p.names_len p.k_lt_places _ copied.new.1.0 p.word_value p.k_value copied.ensures.1
+    put_name _ _ _ p.names_len p.k_lt_places _ c.copy.new.out p.word_value p.k_value (copied_whole _ _ _ c.copy.ensures)

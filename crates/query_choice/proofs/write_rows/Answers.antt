@@ -38,7 +38,7 @@ overflow_add-at c =
 pub loop-c-preserved : goal.loop-c-preserved
 loop-c-preserved c =
     let wrote = c.write_versions-at in
-    (omega arith, rows_turn _ _ c.requires _ _ _ c.loop-c.invariant.1 _ wrote.ensures.0 wrote.ensures.1)
+    (omega arith, rows_turn _ _ c.requires _ _ _ c.loop-c.invariant.1 _ wrote.ensures.value wrote.ensures.out_after)
 
 pub shape_of-out : goal.shape_of-out
 shape_of-out c = rows_length _ _ c.requires _ _ _ c.loop-c.invariant.1 c.loop-c.invariant.0

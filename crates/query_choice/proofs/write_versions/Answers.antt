@@ -8,12 +8,12 @@ use Rattle.query_choice.proofs.write_versions.Goals.{else-member, then-member}
 
 pub returns-then-versions-eq0-clause-value : goal.returns-then-versions-eq0-clause-value
 returns-then-versions-eq0-clause-value c =
-    let w = write_none (λ n. row_of (_, n)) _ _ 64 (λ d. ap (λ s. bit s d) c.if-versions-eq0.true ∙ bit_zero d) in
+    let w = write_none (λ n. row_of (c.args.c, n)) (bit c.args.versions) c.args.out.now 64 (λ d. ap (λ s. bit s d) c.if-versions-eq0.true ∙ bit_zero d) in
     w.at
 
 pub returns-then-versions-eq0-clause-out_after : goal.returns-then-versions-eq0-clause-out_after
 returns-then-versions-eq0-clause-out_after c =
-    let w = write_none (λ n. row_of (_, n)) _ _ 64 (λ d. ap (λ s. bit s d) c.if-versions-eq0.true ∙ bit_zero d) in
+    let w = write_none (λ n. row_of (c.args.c, n)) (bit c.args.versions) c.args.out.now 64 (λ d. ap (λ s. bit s d) c.if-versions-eq0.true ∙ bit_zero d) in
     w.is
 
 pub loop-v-init : goal.loop-v-init

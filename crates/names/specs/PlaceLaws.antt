@@ -13,7 +13,6 @@ use Rattle.sets.specs.Tests.{◌==◌, any, ~◌}
 use Rattle.text.specs.Bytes.{same, short}
 use Rattle.text.specs.Language.{Name}
 use Rattle.text.specs.Tables.{Table, name_at, place}
-use Rattle.names.specs.declared.Found.{Found}
 use Rattle.names.specs.declared.Found.TheVariants.{At, Nothing}
 
 none_before : (n : ℕ) (f : ℕ → Bool) → any n f ≡ false → (i : ℕ) → i < n → f i ≡ false

@@ -4,7 +4,6 @@ use Rattle.book_rules.specs.CompositionLaws.{apart_start, apart-skip, apart_turn
 use Rattle.book_rules.specs.RuleLaws.{provided_more, provided_same}
 use Rattle.book_rules.specs.WalkLaws.{is_member_lem}
 use Rattle.book.specs.ReadLaws.{spec_limits_lem}
-use Rattle.model.specs.Book.{is_member}
 use Rattle.sets.specs.Sets.{Set, bit}
 use Rattle.sets.specs.LoopLaws.{union_start}
 use Rattle.book_compositions.proofs.b6_at.Goals as goal

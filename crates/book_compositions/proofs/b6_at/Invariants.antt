@@ -1,7 +1,6 @@
 use Rattle.std.proofs.Common.{◌≤◌, ◌≡◌}
 use Rattle.book_rules.specs.CompositionLaws.{apart_below}
 use Rattle.book_rules.specs.RuleLaws.{provided_by}
-use Rattle.book_rules.specs.WalkLaws.{is_member_lem}
 use Rattle.book.specs.Plain.{specs_of, systems_of}
 use Rattle.model.specs.Book.{is_member}
 use Rattle.sets.specs.Sets.{bit, union_below}

@@ -24,21 +24,19 @@ pub member_version-w-requires-clause-m_value : goal.member_version-w-requires-cl
 member_version-w-requires-clause-m_value t c = is_member_lem _ _ _ _ _ c.members-members.ensures c.member-in-loop-m.ensures c.if-member-2.true
 
 pub needs_of-requires : goal.needs_of-requires
-needs_of-requires t c =
-    (
-      member_falls (specs_of c.args.sets.now c.args.numbers.now) _ _ _ c.requires.sound c.is_system.ensures
-          (ap not c.if-not-is_system.false) _ _ _ c.decreases c.members-members.ensures
-          c.member-in-loop-m.ensures c.if-member-2.true,
-      (search rules, (search rules, c.loop-m.invariant.1)),
-    )
+needs_of-requires t c = (
+  member_falls (specs_of c.args.sets.now c.args.numbers.now) _ _ _ c.requires.sound c.is_system.ensures
+      (ap not c.if-not-is_system.false) _ _ _ c.decreases c.members-members.ensures
+      c.member-in-loop-m.ensures c.if-member-2.true,
+  (search rules, (search rules, c.loop-m.invariant.1)),
+)
 
 pub loop-m-preserved : goal.loop-m-preserved
-loop-m-preserved t c =
-    (
-      omega arith,
-      elim c.if-member-2.branch [ then-member-2 w ↦ kept_is _ _ w.table-is w.needs_of.ensures.kept_2 | else-member-2 w ↦ kept_is _ _ w.table-is c.loop-m.invariant.1 ],
-      elim c.if-member-2.branch [ then-member-2 w ↦ ap bit w.sum-is ∙ turn_taken _ _ _ _ _ _ _ _ _ c.loop-m.invariant.2 w.member_version-w.ensures w.needs_of.ensures.result_value w.union-sum.ensures | else-member-2 w ↦ ap bit w.sum-is ∙ turn_left _ _ _ _ _ _ _ c.loop-m.invariant.2 c.members-members.ensures c.member-in-loop-m.ensures w.if-member-2.false ],
-    )
+loop-m-preserved t c = (
+  omega arith,
+  elim c.if-member-2.branch [ then-member-2 w ↦ kept_is _ _ w.table-is w.needs_of.ensures.kept_2 | else-member-2 w ↦ kept_is _ _ w.table-is c.loop-m.invariant.1 ],
+  elim c.if-member-2.branch [ then-member-2 w ↦ ap bit w.sum-is ∙ turn_taken _ _ _ _ _ _ _ _ _ c.loop-m.invariant.2 w.member_version-w.ensures w.needs_of.ensures.result_value w.union-sum.ensures | else-member-2 w ↦ ap bit w.sum-is ∙ turn_left _ _ _ _ _ _ _ c.loop-m.invariant.2 c.members-members.ensures c.member-in-loop-m.ensures w.if-member-2.false ],
+)
 
 pub returns-clause-result_value : goal.returns-clause-result_value
 returns-clause-result_value t c =

@@ -10,10 +10,10 @@ returns-then-answer-ne0 c = λ is e. refuse_any _ _ _ c.requires _ (c.mod_answer
 pub put_mod-requires : goal.put_mod-requires
 put_mod-requires c =
     record {
-  component< = mod_component _ _ _ (sym c.mod_answer-answer.ensures ∙ c.if-answer-ne0.false);
-  is_proper = passes-proper _ _ c.requires;
-  is_specified = mod_specified _ _ _ (sym c.mod_answer-answer.ensures ∙ c.if-answer-ne0.false);
-  is_undefined = mod_undefined _ _ _ (sym c.mod_answer-answer.ensures ∙ c.if-answer-ne0.false);
+      component< = mod_component _ _ _ (sym c.mod_answer-answer.ensures ∙ c.if-answer-ne0.false);
+      is_proper = passes-proper _ _ c.requires;
+      is_specified = mod_specified _ _ _ (sym c.mod_answer-answer.ensures ∙ c.if-answer-ne0.false);
+      is_undefined = mod_undefined _ _ _ (sym c.mod_answer-answer.ensures ∙ c.if-answer-ne0.false);
     }
 
 pub returns : goal.returns

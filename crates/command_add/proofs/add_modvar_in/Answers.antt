@@ -15,15 +15,15 @@ overflow_cast-i c = (let h = modvar_implementation _ _ _ _ _ (sym c.modvar_answe
 pub put_modvar-requires-clause-takes_version : goal.put_modvar-requires-clause-takes_version
 put_modvar-requires-clause-takes_version c =
     record {
-    room = record {
-      component< = modvar_component _ _ _ _ _ (sym c.modvar_answer-answer.ensures ∙ c.if-answer-ne0.false);
-      is_proper = passes-proper _ _ c.requires;
-      is_specified = (passes→good (passes_plain _ _ c.requires)).b2.mod_spec _ (modvar_module _ _ _ _ _ (sym c.modvar_answer-answer.ensures ∙ c.if-answer-ne0.false));
-      is_room = modvar_room _ _ _ _ _ (sym c.modvar_answer-answer.ensures ∙ c.if-answer-ne0.false);
-    };
-    version< = modvar_version _ _ _ _ _ (sym c.modvar_answer-answer.ensures ∙ c.if-answer-ne0.false);
-    is_new = modvar_new _ _ _ _ _ (sym c.modvar_answer-answer.ensures ∙ c.if-answer-ne0.false);
-  }
+      room = record {
+        component< = modvar_component _ _ _ _ _ (sym c.modvar_answer-answer.ensures ∙ c.if-answer-ne0.false);
+        is_proper = passes-proper _ _ c.requires;
+        is_specified = (passes→good (passes_plain _ _ c.requires)).b2.mod_spec _ (modvar_module _ _ _ _ _ (sym c.modvar_answer-answer.ensures ∙ c.if-answer-ne0.false));
+        is_room = modvar_room _ _ _ _ _ (sym c.modvar_answer-answer.ensures ∙ c.if-answer-ne0.false);
+      };
+      version< = modvar_version _ _ _ _ _ (sym c.modvar_answer-answer.ensures ∙ c.if-answer-ne0.false);
+      is_new = modvar_new _ _ _ _ _ (sym c.modvar_answer-answer.ensures ∙ c.if-answer-ne0.false);
+    }
 
 pub put_modvar-requires-clause-c_value : goal.put_modvar-requires-clause-c_value
 put_modvar-requires-clause-c_value c = modvar_module _ _ _ _ _ (sym c.modvar_answer-answer.ensures ∙ c.if-answer-ne0.false)

@@ -13,12 +13,12 @@ overflow_cast-standard c = (let h = spec_standard _ _ _ _ _ (sym c.spec_answer-a
 pub put_spec-requires : goal.put_spec-requires
 put_spec-requires c =
     ((
-  record {
-    component< = spec_component _ _ _ _ _ (sym c.spec_answer-answer.ensures ∙ c.if-answer-ne0.false);
-    is_proper = passes-proper _ _ c.requires;
-    is_unspecified = spec_new _ _ _ _ _ (sym c.spec_answer-answer.ensures ∙ c.if-answer-ne0.false);
-  },
-  spec_few _ _ _ _ _ (sym c.spec_answer-answer.ensures ∙ c.if-answer-ne0.false),
+      record {
+        component< = spec_component _ _ _ _ _ (sym c.spec_answer-answer.ensures ∙ c.if-answer-ne0.false);
+        is_proper = passes-proper _ _ c.requires;
+        is_unspecified = spec_new _ _ _ _ _ (sym c.spec_answer-answer.ensures ∙ c.if-answer-ne0.false);
+      },
+      spec_few _ _ _ _ _ (sym c.spec_answer-answer.ensures ∙ c.if-answer-ne0.false),
     )
     )
 

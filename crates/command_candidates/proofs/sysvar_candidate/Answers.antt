@@ -22,7 +22,7 @@ put_sysvar-requires-clause-c_value c = (is_system_lem _ _ _ _ _ c.requires.numbe
 pub returns-clause-holds : goal.returns-clause-holds
 returns-clause-holds c =
     λ ms e. sysvar_candidate_is _ _ _ _ _ c.requires.numbers_value c.requires.g_value _ _ _ (length-replicate {A = ℕ} 2048 0) c.put_row.ensures c.complete_row.ensures _ c.below_32.ensures
-          ms e _ _ c.put_sysvar.ensures
+    ms e _ _ c.put_sysvar.ensures
 
 pub returns-clause-numbers_after : goal.returns-clause-numbers_after
 returns-clause-numbers_after c = sysvar_B4 _ _ _ _ _ c.requires.numbers_value c.requires.g_value _ _ _ c.put_sysvar.ensures

@@ -38,10 +38,10 @@ returns-then-not-held_by_none c =
 pub take_modvar-requires-clause-holds_version : goal.take_modvar-requires-clause-holds_version
 take_modvar-requires-clause-holds_version c =
     record {
-    component< = omega (arith, c.if-c-ge32.false);
-    is_proper = passes-proper _ _ c.requires;
-    is_there = is_yes _ c.has_version.ensures (ap not c.if-not-has_version.false);
-  }
+      component< = omega (arith, c.if-c-ge32.false);
+      is_proper = passes-proper _ _ c.requires;
+      is_there = is_yes _ c.has_version.ensures (ap not c.if-not-has_version.false);
+    }
 
 pub take_modvar-requires-clause-c_value : goal.take_modvar-requires-clause-c_value
 take_modvar-requires-clause-c_value c = is_yes _ c.is_module.ensures (ap not c.if-not-is_module.false)

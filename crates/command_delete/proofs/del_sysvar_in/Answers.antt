@@ -38,10 +38,10 @@ returns-then-not-held_by_none c =
 pub take_sysvar-requires-clause-holds_version : goal.take_sysvar-requires-clause-holds_version
 take_sysvar-requires-clause-holds_version c =
     record {
-    component< = omega (arith, c.if-s-ge32.false);
-    is_proper = passes-proper _ _ c.requires;
-    is_there = is_yes _ c.has_version.ensures (ap not c.if-not-has_version.false);
-  }
+      component< = omega (arith, c.if-s-ge32.false);
+      is_proper = passes-proper _ _ c.requires;
+      is_there = is_yes _ c.has_version.ensures (ap not c.if-not-has_version.false);
+    }
 
 pub take_sysvar-requires-clause-c_value : goal.take_sysvar-requires-clause-c_value
 take_sysvar-requires-clause-c_value c = is_yes _ c.is_system.ensures (ap not c.if-not-is_system.false)

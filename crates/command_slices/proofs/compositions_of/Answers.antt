@@ -16,12 +16,11 @@ pub returns-then-chosen-a : goal.returns-then-chosen-a
 returns-then-chosen-a c = few_versions c.args.versions.now c.args.lengths.now c.args.members.now c.args.chosen.now c.loop-i.i c.loop-i.a _ c.loop-i.invariant.2 c.loop-i-test.true c.if-lengths-i.false _ c.if-chosen-a.true c.apart-then-chosen-a.ensures
 
 pub loop-i-preserved : goal.loop-i-preserved
-loop-i-preserved c =
-    (
+loop-i-preserved c = (
   omega (arith, c.loop-i.invariant.0, c.if-members-a.false),
   omega (arith, c.loop-i.invariant.1, c.if-chosen-a.false),
   compositions_turn c.args.versions.now c.args.lengths.now c.args.members.now c.args.chosen.now c.loop-i.i c.loop-i.a _ c.loop-i.invariant.2 c.loop-i-test.true c.if-lengths-i.false _ _ _ refl c.if-members-a.false c.if-chosen-a.false refl (c.with_composition-g.ensures _ c.composition_at-k.ensures),
-    )
+)
 
 pub returns-then-i-lengths : goal.returns-then-i-lengths
 returns-then-i-lengths c = lengths_left c.args.versions.now c.args.lengths.now c.args.members.now c.args.chosen.now c.loop-i.i c.loop-i.a _ c.loop-i.invariant.2 c.loop-i-test.false _ c.if-i-lengths.true c.apart-then-i-lengths.ensures

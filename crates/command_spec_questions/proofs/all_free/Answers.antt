@@ -1,7 +1,6 @@
 use Rattle.std.specs.Prelude.{not}
 use Rattle.std.proofs.Common.{rules, arith, ◌∙◌, sym, ap}
 use Rattle.sets.specs.LoopLaws.{all_start, all_turn, all_stop, all_end}
-use Rattle.command_questions.specs.Asked.{free_in}
 use Rattle.command_questions.specs.AskedLaws.{all-free_is, free_in_lem}
 use Rattle.command_spec_questions.proofs.all_free.Goals as goal
 

@@ -2,7 +2,6 @@ use Rattle.std.proofs.Common.{◌≤◌, true, ◌≡◌}
 use Rattle.sets.specs.Sets.{bit}
 use Rattle.sets.specs.Tests.{all}
 use Rattle.command_questions.specs.Asked.{free_in}
-use Rattle.command_questions.specs.AskedLaws.{free_in_lem}
 use Rattle.command_spec_questions.proofs.all_free.Given as goal
 
 abbrev pub invariant-loop-v : goal.invariant-loop-v

@@ -12,11 +12,10 @@ returns-then-holds c =
     c.loop-k.invariant.1 c.holds.ensures c.if-holds.true
 
 pub loop-k-preserved : goal.loop-k-preserved
-loop-k-preserved c =
-    (
+loop-k-preserved c = (
   omega arith,
   any_turn _ _ c.loop-k.invariant.1 (held_is _ _ _ _ c.holds.ensures) c.if-holds.false,
-    )
+)
 
 pub returns : goal.returns
 returns c = lookup_end _ _ _ _ c.loop-k.invariant.0 c.loop-k-test.false c.loop-k.invariant.1

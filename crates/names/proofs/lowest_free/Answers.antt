@@ -12,11 +12,10 @@ returns-then-is_free c =
     c.is_free.ensures c.if-is_free.true
 
 pub loop-k-preserved : goal.loop-k-preserved
-loop-k-preserved c =
-    (
+loop-k-preserved c = (
   omega arith,
   any_turn _ _ c.loop-k.invariant.1 (free_is _ _ _ c.is_free.ensures) c.if-is_free.false,
-    )
+)
 
 pub returns : goal.returns
 returns c = free_end _ _ _ c.loop-k.invariant.0 c.loop-k-test.false c.loop-k.invariant.1

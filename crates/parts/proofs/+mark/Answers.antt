@@ -15,23 +15,24 @@ pub member_version-w-requires-clause-m_value : goal.member_version-w-requires-cl
 member_version-w-requires-clause-m_value t c = is_member_lem _ _ _ _ _ c.members-members.ensures c.member-in-loop-m.ensures c.if-member-2.true
 
 pub mark-requires : goal.mark-requires
-mark-requires t c =
-    (
-      walk_falls (plain_of c.args.sets.now c.args.numbers.now) c.requires.good _ _ _ _ _ c.decreases
-          c.members-members.ensures c.member-in-loop-m.ensures c.if-member-2.true,
-      (
-        walk_limits (plain_of c.args.sets.now c.args.numbers.now) c.requires.good _ _ _ _ c.member_version-w.ensures,
-        (c.requires.good, c.loop-m.invariant.1.onto.closed),
-      ),
-    )
+mark-requires t c = (
+  walk_falls (plain_of c.args.sets.now c.args.numbers.now) c.requires.good _ _ _ _ _ c.decreases
+      c.members-members.ensures c.member-in-loop-m.ensures c.if-member-2.true,
+  (
+    walk_limits (plain_of c.args.sets.now c.args.numbers.now) c.requires.good _ _ _ _ c.member_version-w.ensures,
+    (c.requires.good, c.loop-m.invariant.1.onto.closed),
+  ),
+)
 
 pub loop-m-preserved : goal.loop-m-preserved
-loop-m-preserved t c =
-    (
-      omega arith,
-      elim c.if-member-2.branch [ then-member-2 w ↦ marking_is _ _ _ _ _ w.marks-is (marking_turn _ _ _ _ _ _ _ _ c.loop-m.invariant.1 w.member_version-w.ensures w.mark.ensures) | else-member-2 w ↦ marking_is _ _ _ _ _ w.marks-is
-          (marking_skip _ _ _ _ _ _ _ c.loop-m.invariant.1 c.members-members.ensures c.member-in-loop-m.ensures w.if-member-2.false) ],
-    )
+loop-m-preserved t c = (
+  omega arith,
+  elim c.if-member-2.branch [
+    | then-member-2 w ↦ marking_is _ _ _ _ _ w.marks-is (marking_turn _ _ _ _ _ _ _ _ c.loop-m.invariant.1 w.member_version-w.ensures w.mark.ensures)
+    | else-member-2 w ↦ marking_is _ _ _ _ _ w.marks-is
+        (marking_skip _ _ _ _ _ _ _ c.loop-m.invariant.1 c.members-members.ensures c.member-in-loop-m.ensures w.if-member-2.false)
+  ],
+)
 
 pub returns : goal.returns
 returns t c = marking_end _ _ _ _ _ _ _ c.requires.good.system_limits c.loop-m-test.false c.loop-m.invariant.1 c.requires.c_bound.0 c.with.ensures

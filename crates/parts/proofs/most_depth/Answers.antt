@@ -8,12 +8,11 @@ pub loop-s-init : goal.loop-s-init
 loop-s-init c = (search rules, search rules, count_start _)
 
 pub loop-s-preserved : goal.loop-s-preserved
-loop-s-preserved c =
-    (
-      omega arith,
-      elim c.if-is_system.branch [ then-is_system w ↦ omega (arith, w.n-is) | else-is_system w ↦ omega (arith, w.n-is) ],
-      elim c.if-is_system.branch [ then-is_system w ↦ w.n-is ∙ count_hit _ _ _ c.loop-s.invariant.2 c.is_system.ensures w.if-is_system.true | else-is_system w ↦ w.n-is ∙ count_miss _ _ _ c.loop-s.invariant.2 c.is_system.ensures w.if-is_system.false ],
-    )
+loop-s-preserved c = (
+  omega arith,
+  elim c.if-is_system.branch [ then-is_system w ↦ omega (arith, w.n-is) | else-is_system w ↦ omega (arith, w.n-is) ],
+  elim c.if-is_system.branch [ then-is_system w ↦ w.n-is ∙ count_hit _ _ _ c.loop-s.invariant.2 c.is_system.ensures w.if-is_system.true | else-is_system w ↦ w.n-is ∙ count_miss _ _ _ c.loop-s.invariant.2 c.is_system.ensures w.if-is_system.false ],
+)
 
 pub returns : goal.returns
 unfolding how_many_systems

@@ -15,11 +15,10 @@ pub returns-then-row-lt2048 : goal.returns-then-row-lt2048
 returns-then-row-lt2048 c = pair_stop _ _ _ c.loop-d-test.true c.loop-d.invariant.1 c.next_version-row.ensures c.if-row-lt2048.true
 
 pub loop-d-preserved : goal.loop-d-preserved
-loop-d-preserved c =
-    (
+loop-d-preserved c = (
   omega arith,
   pair_turn _ _ _ c.loop-d-test.true c.loop-d.invariant.1 c.next_version-row.ensures c.if-row-lt2048.false,
-    )
+)
 
 pub returns : goal.returns
 returns c = pair_end _ _ c.loop-d-test.false c.loop-d.invariant.1

@@ -17,11 +17,10 @@ pub returns-then-x-ge2048 : goal.returns-then-x-ge2048
 returns-then-x-ge2048 c = rows_end _ c.requires.good _ _ c.requires.v_value _ c.parts_of-parts.ensures _ _ _ _ c.loop-k.invariant.1 (omega (arith, c.loop-k-test.true)) c.next_row-x.ensures c.if-x-ge2048.true
 
 pub loop-k-preserved : goal.loop-k-preserved
-loop-k-preserved c =
-    (
+loop-k-preserved c = (
   omega arith,
   rows_turn _ c.requires.good _ _ c.requires.v_value _ c.parts_of-parts.ensures _ _ _ _ c.loop-k.invariant.1 (omega (arith, c.loop-k-test.true)) c.next_row-x.ensures _ (omega (arith, c.if-x-ge2048.false)) c.with.ensures,
-    )
+)
 
 pub returns : goal.returns
 returns c = rows_full _ _ _ _ _ _ c.loop-k.invariant.1 c.loop-k.invariant.0 c.loop-k-test.false

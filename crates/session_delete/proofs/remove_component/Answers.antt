@@ -36,7 +36,7 @@ returns-in_default-clause-ready_2 c =
 pub returns-in_default-clause-answers : goal.returns-in_default-clause-answers
 returns-in_default-clause-answers c =
     component_unknown c.args.kind _ _ _ _ _ c.read_one-w.ensures (ap not c.if-not-w.false) _ _ _ _ _ _ _ c.place_of.ensures
-            c.in_default.is _ c.component_answer.ensures
+    c.in_default.is _ c.component_answer.ensures
 
 pub returns-in_default-clause-undecided : goal.returns-in_default-clause-undecided
 returns-in_default-clause-undecided c = was_decided
@@ -52,7 +52,7 @@ returns-clause-answers c =
     let ready = c.requires.ready in
     let done = c.take_out.ensures in
     component_known c.args.kind _ _ _ _ _ c.read_one-w.ensures (ap not c.if-not-w.false)
-            _ _ _ _ _ _ _ c.place_of.ensures ready _ c.in-At.is _ _ _ done
+    _ _ _ _ _ _ _ c.place_of.ensures ready _ c.in-At.is _ _ _ done
 
 pub returns-clause-undecided : goal.returns-clause-undecided
 returns-clause-undecided c = was_decided

@@ -36,7 +36,7 @@ returns-in_default-clause-ready_2 c =
 pub returns-in_default-clause-answers : goal.returns-in_default-clause-answers
 returns-in_default-clause-answers c =
     pair_unknown c.args.kind _ _ _ c.read_pair-p.ensures (ap not c.if-not-p.false) _ _ _ _ _ _ _ c.place_of.ensures
-            c.in_default.is _ c.pair_answer.ensures
+    c.in_default.is _ c.pair_answer.ensures
 
 pub returns-in_default-clause-undecided : goal.returns-in_default-clause-undecided
 returns-in_default-clause-undecided c = was_decided
@@ -65,8 +65,8 @@ returns-in_default-place_of-clause-ready_2 c =
 pub returns-in_default-place_of-clause-answers : goal.returns-in_default-place_of-clause-answers
 returns-in_default-place_of-clause-answers c =
     version_unknown c.args.kind _ _ _ c.read_pair-p.ensures (ap not c.if-not-p.false)
-            _ _ _ _ _ _ _ c.place_of.ensures _ c.in-At.is _ c.place_of-2.ensures
-            c.in_default-place_of.is _ c.version_answer.ensures
+    _ _ _ _ _ _ _ c.place_of.ensures _ c.in-At.is _ c.place_of-2.ensures
+    c.in_default-place_of.is _ c.version_answer.ensures
 
 pub returns-in_default-place_of-clause-undecided : goal.returns-in_default-place_of-clause-undecided
 returns-in_default-place_of-clause-undecided c = was_decided
@@ -82,8 +82,8 @@ returns-clause-answers c =
     let ready = c.requires.ready in
     let done = c.take_version_out.ensures in
     version_known c.args.kind _ _ _ c.read_pair-p.ensures (ap not c.if-not-p.false)
-            _ _ _ _ _ _ _ c.place_of.ensures _ c.in-At.is _ c.place_of-2.ensures
-            ready _ c.in-At-place_of.is _ _ _ done
+    _ _ _ _ _ _ _ c.place_of.ensures _ c.in-At.is _ c.place_of-2.ensures
+    ready _ c.in-At-place_of.is _ _ _ done
 
 pub returns-clause-undecided : goal.returns-clause-undecided
 returns-clause-undecided c = was_decided

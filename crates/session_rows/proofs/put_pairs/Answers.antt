@@ -10,11 +10,10 @@ pub bounds-rows-k : goal.bounds-rows-k
 bounds-rows-k c = omega (arith, c.requires, c.loop-k-test.true)
 
 pub loop-k-preserved : goal.loop-k-preserved
-loop-k-preserved c =
-    (
+loop-k-preserved c = (
   omega arith,
   pairs_turn _ _ _ _ _ _ c.requires c.loop-k.invariant.1 c.loop-k-test.true c.put_pair-after.ensures,
-    )
+)
 
 pub shape_of-out : goal.shape_of-out
 shape_of-out c = partly_keeps c.loop-k.invariant.1

@@ -32,8 +32,8 @@ pub returns-in-Whole-clause-answers : goal.returns-in-Whole-clause-answers
 unfolding query_reader
 returns-in-Whole-clause-answers c =
     as_query _ (Whole _) c.in-Whole.is
-      (asked_alone (asked_of_book _) c.requires.at_in_bounds
-      c.show_book.ensures)
+    (asked_alone (asked_of_book _) c.requires.at_in_bounds
+    c.show_book.ensures)
 
 pub returns-in-Whole-clause-unread : goal.returns-in-Whole-clause-unread
 unfolding query_reader

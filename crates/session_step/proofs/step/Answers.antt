@@ -17,7 +17,7 @@ returns-in-Asks-clause-ready c = c.requires
 pub returns-in-Asks-clause-stepped : goal.returns-in-Asks-clause-stepped
 returns-in-Asks-clause-stepped c =
     steps_asked c.read_command-w.ensures _ c.in-Asks.is
-          c.ask.ensures
+    c.ask.ensures
 
 pub returns-in-Over-clause-ready : goal.returns-in-Over-clause-ready
 returns-in-Over-clause-ready c = c.requires
@@ -31,4 +31,4 @@ returns-in-Nothing-clause-ready c = c.requires
 pub returns-in-Nothing-clause-stepped : goal.returns-in-Nothing-clause-stepped
 returns-in-Nothing-clause-stepped c =
     steps_nothing c.read_command-w.ensures c.in-Nothing.is
-          c.refuse.ensures
+    c.refuse.ensures

@@ -22,11 +22,10 @@ pub loop-k-smaller : goal.loop-k-smaller
 loop-k-smaller c = fewer _ _ _ _ _ c.loop-k.invariant.0 c.loop-k-test.true c.without-rest.ensures
 
 pub loop-k-preserved : goal.loop-k-preserved
-loop-k-preserved c =
-    (
+loop-k-preserved c = (
   c.first_by_name-k-in-loop-k.ensures,
   c.loop-k.invariant.1 ∙ next_not _ _ _ _ c.loop-k.invariant.0 c.loop-k-test.true c.is_next.ensures c.if-is_next.false c.without-rest.ensures,
-    )
+)
 
 pub returns : goal.returns
 returns c = next_none _ _ _ _ _ c.loop-k.invariant.0 c.loop-k-test.false c.loop-k.invariant.1

@@ -25,12 +25,11 @@ pub with-done-requires : goal.with-done-requires
 with-done-requires c = omega (arith, c.if-k-ge32.false)
 
 pub loop-i-preserved : goal.loop-i-preserved
-loop-i-preserved c =
-    (
+loop-i-preserved c = (
   omega arith,
   order_turn c.loop-i.invariant.1 _ c.requires c.next_system-k.ensures c.loop-i-test.true c.if-k-ge32.false c.put_line-after.ensures
       c.with-done.ensures,
-    )
+)
 
 pub shape_of-out : goal.shape_of-out
 shape_of-out c = order_keeps c.loop-i.invariant.1

@@ -13,6 +13,8 @@ import re
 import sys
 
 HERE = os.path.dirname(os.path.realpath(__file__))
+# Two operators of crate sets stood under the names of operators of the library: their words, in specs and proofs, and the test in a clause.
+OPERATORS = {"◌==◌": "◌=?◌", "==": "=?", "if◌then◌else◌": "if?◌then◌else◌", "if": "if?"}
 WORD = re.compile(r'[^\s(){}.;,@"«»\[\]\\|]+')
 PIECE = re.compile(r'"(?:[^"\\\n]|\\.)*"|--[^\n]*|//[^\n]*|[^\s(){}.;,@"«»\[\]\\|]+|.', re.S)
 
@@ -70,13 +72,24 @@ def turn(text, names, kind):
             elif behind and piece in LAWS and chain[0] == "Rattle":
                 out.append(piece)
             else:
-                out.append(names.get(piece, piece))
+                out.append(operator(names.get(piece, piece), kind))
             chain.append(piece)
         else:
             out.append(piece)
             if piece != ".":
                 chain = []
     return "".join(out)
+
+
+def operator(word, kind):
+    if kind == "rt" and "◌" not in word:
+        return word
+    return OPERATORS.get(word, "=?" + word[2:] if word.startswith("==-") else word)
+
+
+def tests_of_clauses(text):
+    """A test in a clause of the sources: Rust has no `then`."""
+    return re.sub(r"\bif (?=[^{};\n]*\bthen\b)", "if? ", text)
 
 
 def edit(text, names):
@@ -88,6 +101,8 @@ def edit(text, names):
             kind = "rt" if name.endswith(".rt") else "proof" if name.endswith("Proof.antt") else "antt"
         if m and m.group(1) != "file":
             line = f"{m.group(1)}:{m.group(2)}{turn(m.group(3), names, kind)}"
+            if kind == "rt":
+                line = tests_of_clauses(line)
         lines.append(line)
     return "\n".join(lines)
 
@@ -124,6 +139,8 @@ def main(root):
         with open(path, encoding="utf-8") as f:
             text = f.read()
         new = edit(text, names) if kind is None else turn(text, names, kind)
+        if kind == "rt":
+            new = tests_of_clauses(new)
         if new != text:
             with open(path, "w", encoding="utf-8") as f:
                 f.write(new)

@@ -4,8 +4,8 @@ use Rattle.std.proofs.Common.{◌∙◌, subst, sym}
 use Rattle.model.specs.Queries.{NEEDS, Query, Reply, STANDARD, SUPPLIES, UNDEFINED, UNUSED, WHEREUSED, the_version}
 use Rattle.bench_host.specs.Asked.{asked_by}
 use Rattle.query_replies.specs.Replied.{Replied, components_in, facilities_in, replied_to}
-use Rattle.sets.specs.TestLaws.{==-in, ==-not, if-false, if-true}
-use Rattle.sets.specs.Tests.{◌==◌, if◌then◌else◌}
+use Rattle.sets.specs.TestLaws.{=?-in, =?-not, if-false, if-true}
+use Rattle.sets.specs.Tests.{◌=?◌, if?◌then◌else◌}
 
 abbrev Asked : Type 0
 Asked = Query × (ℕ → Reply)
@@ -16,32 +16,32 @@ module _ (kind c v : ℕ) where
 
   is_0 : kind ≡ 0 → this ≡ (SUPPLIES c, facilities_in)
   unfolding asked_by
-  is_0 e = if-true _ _ _ (==-in _ _ e)
+  is_0 e = if-true _ _ _ (=?-in _ _ e)
 
   module _ (n0 : kind ≢ 0) where
     is_1 : kind ≡ 1 → this ≡ (NEEDS c v, facilities_in)
     unfolding asked_by
-    is_1 e = if-false _ _ _ (==-not _ _ n0) ∙ if-true _ _ _ (==-in _ _ e)
+    is_1 e = if-false _ _ _ (=?-not _ _ n0) ∙ if-true _ _ _ (=?-in _ _ e)
 
     module _ (n1 : kind ≢ 1) where
       is_2 : kind ≡ 2 → this ≡ (UNDEFINED, components_in)
       unfolding asked_by
-      is_2 e = if-false _ _ _ (==-not _ _ n0) ∙ if-false _ _ _ (==-not _ _ n1) ∙ if-true _ _ _ (==-in _ _ e)
+      is_2 e = if-false _ _ _ (=?-not _ _ n0) ∙ if-false _ _ _ (=?-not _ _ n1) ∙ if-true _ _ _ (=?-in _ _ e)
 
       module _ (n2 : kind ≢ 2) where
-        past_2 : this ≡ (if kind == 3 then (UNUSED, components_in) else (if kind == 4 then (WHEREUSED c, components_in) else (STANDARD c, the_version)))
+        past_2 : this ≡ (if? kind =? 3 then (UNUSED, components_in) else (if? kind =? 4 then (WHEREUSED c, components_in) else (STANDARD c, the_version)))
         unfolding asked_by
-        past_2 = if-false _ _ _ (==-not _ _ n0) ∙ if-false _ _ _ (==-not _ _ n1) ∙ if-false _ _ _ (==-not _ _ n2)
+        past_2 = if-false _ _ _ (=?-not _ _ n0) ∙ if-false _ _ _ (=?-not _ _ n1) ∙ if-false _ _ _ (=?-not _ _ n2)
 
         is_3 : kind ≡ 3 → this ≡ (UNUSED, components_in)
-        is_3 e = past_2 ∙ if-true _ _ _ (==-in _ _ e)
+        is_3 e = past_2 ∙ if-true _ _ _ (=?-in _ _ e)
 
         module _ (n3 : kind ≢ 3) where
           is_4 : kind ≡ 4 → this ≡ (WHEREUSED c, components_in)
-          is_4 e = past_2 ∙ if-false _ _ _ (==-not _ _ n3) ∙ if-true _ _ _ (==-in _ _ e)
+          is_4 e = past_2 ∙ if-false _ _ _ (=?-not _ _ n3) ∙ if-true _ _ _ (=?-in _ _ e)
 
           is_5 : kind ≢ 4 → this ≡ (STANDARD c, the_version)
-          is_5 n4 = past_2 ∙ if-false _ _ _ (==-not _ _ n3) ∙ if-false _ _ _ (==-not _ _ n4)
+          is_5 n4 = past_2 ∙ if-false _ _ _ (=?-not _ _ n3) ∙ if-false _ _ _ (=?-not _ _ n4)
 
 -- what the query of a number gives is what its call gives
 module _ (s n : List ℕ) (a x kind c v : ℕ) where

@@ -22,8 +22,8 @@ use Rattle.book.specs.Writers.{put_ext, put_none}
 use Rattle.model.specs.Book.{System, components, is_defined, is_module, is_system, versions}
 use Rattle.model.specs.Commands.{DEL-MOD, DEL-SPEC, DEL-SYS, after, stored}
 use Rattle.model.specs.Maps.{Map, is_some, only_if, option_map, put}
-use Rattle.sets.specs.TestLaws.{<?_in, ==-not, ==-same, and-true, clash, fails, if-true, not_in, same?}
-use Rattle.sets.specs.Tests.{◌==◌}
+use Rattle.sets.specs.TestLaws.{<?_in, =?-not, =?-same, and-true, clash, fails, if-true, not_in, same?}
+use Rattle.sets.specs.Tests.{◌=?◌}
 use Rattle.model_laws.specs.Accepted.{not_defined}
 use Rattle.model_laws.specs.MapLaws.{is_some_in, option?}
 use Rattle.model_laws.specs.Notions.{distinct}
@@ -41,7 +41,7 @@ module _ (s n s' n' : List ℕ) (c k : ℕ) (c< : c < components) (there : speci
 
   places : (v : ℕ) → place_of n' c v ≡ place_of n c v
   unfolding place_of
-  places v = if-true _ _ _ there' ∙ ap (option_map (λ j. c * 8 + j)) (slot_same _ _ v (λ j l. ap (λ (x : ℕ). x == v) (slots' j l))) ∙ sym (if-true _ _ _ there)
+  places v = if-true _ _ _ there' ∙ ap (option_map (λ j. c * 8 + j)) (slot_same _ _ v (λ j l. ap (λ (x : ℕ). x =? v) (slots' j l))) ∙ sym (if-true _ _ _ there)
 
   pub kept_specs : specs_of s' n' ≡ specs_of s n
   kept_specs = fun_ext (λ d. elim (same? d c) [ inl e ↦ rw e here | inr ne ↦ other_specs s n s' n' c off d ne ])
@@ -54,16 +54,16 @@ module _ (s n s' n' : List ℕ) (c k : ℕ) (c< : c < components) (there : speci
       here = unfold specs_of spec_at in
           ap₂ only_if (there' ∙ sym there) (specs_ext (ap facility_set provides') (fun_ext required) standard')
 
-  pub set_modules : modules_of n' ≡ put c (only_if (k == 2) (λ v. option_map (λ i. byte (implementation_at n' i)) (place_of n c v))) (modules_of n)
+  pub set_modules : modules_of n' ≡ put c (only_if (k =? 2) (λ v. option_map (λ i. byte (implementation_at n' i)) (place_of n c v))) (modules_of n)
   unfolding modules_of module_at kind_is
   set_modules = put_ext _ _ c _ (other_modules s n s' n' c off)
-      (ap₂ only_if (and-true _ _ (<?_in _ _ c<) ∙ ap (λ (x : ℕ). x == 2) kind) (fun_ext (λ v. ap (option_map (λ i. byte (implementation_at n' i))) (places v))))
+      (ap₂ only_if (and-true _ _ (<?_in _ _ c<) ∙ ap (λ (x : ℕ). x =? 2) kind) (fun_ext (λ v. ap (option_map (λ i. byte (implementation_at n' i))) (places v))))
 
   pub set_systems : systems_of s' n'
-      ≡ put c (only_if (k == 3) (record { uses = component_set (usable_at s' c); comp = λ v. option_map (composition_at s' n') (place_of n c v) })) (systems_of s n)
+      ≡ put c (only_if (k =? 3) (record { uses = component_set (usable_at s' c); comp = λ v. option_map (composition_at s' n') (place_of n c v) })) (systems_of s n)
   unfolding systems_of system_at kind_is
   set_systems = put_ext _ _ c _ (other_systems s n s' n' c off)
-      (ap₂ only_if (and-true _ _ (<?_in _ _ c<) ∙ ap (λ (x : ℕ). x == 3) kind)
+      (ap₂ only_if (and-true _ _ (<?_in _ _ c<) ∙ ap (λ (x : ℕ). x =? 3) kind)
       (system_ext refl (fun_ext (λ v. ap (option_map (composition_at s' n')) (places v)))))
 
   pub set-proper : proper s n ≡ true → k ≤ 3 → (k ≡ 3 → usable_at s' c < 2 ^ 32)
@@ -98,12 +98,12 @@ module _ (s n : List ℕ) (c : ℕ) (c< : c < components) (ln : length n ≡ 876
     modules₁ : modules_of n₁ ≡ put c none (modules_of n)
     modules₁ = set_modules s n s n₁ c 1 c< there at₁ kind₁ (omega arith) refl (get_or-set_other n c (32 + c) 1 0 (omega arith))
         (λ j l. get_or-set_other n c (64 + (c * 8 + j)) 1 0 (omega arith)) (λ j l. refl)
-        ∙ ap (λ (o : Option (Map ℕ)). put c o (modules_of n)) (only_no _ _ (==-not 1 2 (omega arith)))
+        ∙ ap (λ (o : Option (Map ℕ)). put c o (modules_of n)) (only_no _ _ (=?-not 1 2 (omega arith)))
 
     systems₁ : systems_of s n₁ ≡ put c none (systems_of s n)
     systems₁ = set_systems s n s n₁ c 1 c< there at₁ kind₁ (omega arith) refl (get_or-set_other n c (32 + c) 1 0 (omega arith))
         (λ j l. get_or-set_other n c (64 + (c * 8 + j)) 1 0 (omega arith)) (λ j l. refl)
-        ∙ ap (λ (o : Option System). put c o (systems_of s n)) (only_no _ _ (==-not 1 3 (omega arith)))
+        ∙ ap (λ (o : Option System). put c o (systems_of s n)) (only_no _ _ (=?-not 1 3 (omega arith)))
 
     proper₁ : proper s n₁ ≡ true
     proper₁ = set-proper s n s n₁ c 1 c< there at₁ kind₁ (omega arith) refl (get_or-set_other n c (32 + c) 1 0 (omega arith))
@@ -227,9 +227,9 @@ module _ (s n given : List ℕ) (c : ℕ) (t : TakesDefinition s n c) (n' : List
   module_put = record {
     is = book_ext (kept_specs s n s n₂ c 2 c<₂ there₂ at₂ kind₂ (omega arith) refl standard₂ slots₂ (λ j l. refl))
         (set_modules s n s n₂ c 2 c<₂ there₂ at₂ kind₂ (omega arith) refl standard₂ slots₂ (λ j l. refl)
-        ∙ ap (λ (o : Option (Map ℕ)). put c o (modules_of n)) (only_yes _ _ (==-same 2) ∙ ap some (fun_ext stored₂)))
+        ∙ ap (λ (o : Option (Map ℕ)). put c o (modules_of n)) (only_yes _ _ (=?-same 2) ∙ ap some (fun_ext stored₂)))
         (set_systems s n s n₂ c 2 c<₂ there₂ at₂ kind₂ (omega arith) refl standard₂ slots₂ (λ j l. refl)
-        ∙ ap (λ (o : Option System). put c o (systems_of s n)) (only_no _ _ (==-not 2 3 (omega arith)))
+        ∙ ap (λ (o : Option System). put c o (systems_of s n)) (only_no _ _ (=?-not 2 3 (omega arith)))
         ∙ put_none _ c (no_system s n c (defined_none s n c t.is_undefined).1));
     is_proper = set-proper s n s n₂ c 2 c<₂ there₂ at₂ kind₂ (omega arith) refl standard₂ slots₂ (λ j l. refl) t.is_proper (omega arith)
         (λ e. absurd (omega arith)) (λ e. absurd (omega arith));

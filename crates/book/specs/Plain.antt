@@ -8,22 +8,22 @@ use Rattle.model.specs.Book.{Book, Modules, Spec, Specs, System, Systems, compon
 use Rattle.model.specs.Lists.{first_from}
 use Rattle.model.specs.Maps.{Map, only_if, option_map}
 use Rattle.sets.specs.Sets.{Set, bit}
-use Rattle.sets.specs.Tests.{◌&◌, ◌<?◌, ◌==◌, ◌⇒◌, ◌≤?◌, all, if◌then◌else◌, ~◌}
+use Rattle.sets.specs.Tests.{◌&◌, ◌<?◌, ◌=?◌, ◌⇒◌, ◌≤?◌, all, if?◌then◌else◌, ~◌}
 use Rattle.sets.specs.Sets as sets
 
 -- the lowest slot that has the version v, where vs j is the version in slot j; a number of 64 or more is no version
 unfoldable pub slot : (ℕ → ℕ) → ℕ → Option ℕ
-slot vs v = if v <? versions then first_from 8 0 (λ j. only_if (vs j == v) j) else none
+slot vs v = if? v <? versions then first_from 8 0 (λ j. only_if (vs j =? v) j) else none
 
 unfoldable pub kind_is : List ℕ → ℕ → ℕ → Bool
-kind_is n k c = c <? components & kind_at n c == k
+kind_is n k c = c <? components & kind_at n c =? k
 
 unfoldable pub specified_at : List ℕ → ℕ → Bool
-specified_at n c = c <? components & ~ (kind_at n c == 0)
+specified_at n c = c <? components & ~ (kind_at n c =? 0)
 
 -- the place of the version v of c
 unfoldable pub place_of : List ℕ → ℕ → ℕ → Option ℕ
-place_of n c v = if specified_at n c then option_map (λ j. c * 8 + j) (slot (slots_of n c) v) else none
+place_of n c v = if? specified_at n c then option_map (λ j. c * 8 + j) (slot (slots_of n c) v) else none
 
 unfoldable pub facility_set : ℕ → Set
 facility_set x = sets.below facilities (bit x)
@@ -72,7 +72,7 @@ slot_low n c j = slots_of n c j ≤? versions
 
 -- no version stands in two slots
 unfoldable pub slots_apart : List ℕ → ℕ → ℕ → ℕ → Bool
-slots_apart n c j k = slots_of n c j <? versions ⇒ slots_of n c j == slots_of n c k ⇒ j == k
+slots_apart n c j k = slots_of n c j <? versions ⇒ slots_of n c j =? slots_of n c k ⇒ j =? k
 
 unfoldable pub slot_apart : List ℕ → ℕ → ℕ → Bool
 slot_apart n c j = all 8 (slots_apart n c j)
@@ -86,10 +86,10 @@ unfoldable pub sets_low : List ℕ → List ℕ → ℕ → Bool
 sets_low s n c = usable_at s c <? 2 ^ 32 & all 8 (members_low s n c)
 
 unfoldable pub proper_at : List ℕ → List ℕ → ℕ → Bool
-proper_at s n c = kind_at n c ≤? 3 & all 8 (slot_low n c) & all 8 (slot_apart n c) & (kind_at n c == 3 ⇒ sets_low s n c)
+proper_at s n c = kind_at n c ≤? 3 & all 8 (slot_low n c) & all 8 (slot_apart n c) & (kind_at n c =? 3 ⇒ sets_low s n c)
 
 unfoldable pub proper_if : List ℕ → List ℕ → ℕ → Bool
-proper_if s n c = ~ (kind_at n c == 0) ⇒ proper_at s n c
+proper_if s n c = ~ (kind_at n c =? 0) ⇒ proper_at s n c
 
 -- Of the remaining numbers, a standard version or a member's version of 64 or more is none that its component has (B1, B5), and
 -- every number that an array can hold is below the limit of facilities and implementations.

@@ -13,7 +13,7 @@ use Rattle.model.specs.Limits.{how_many}
 use Rattle.model.specs.Maps.{is_some}
 use Rattle.model.specs.Questions.{free}
 use Rattle.model.specs.Rules.{p}
-use Rattle.sets.specs.TestLaws.{<?_in, <?_out, ==-in, ==-no, ==-not, ==-out, all_in, all_out, and_in, and_l, and_r, if-true, imp_in}
+use Rattle.sets.specs.TestLaws.{<?_in, <?_out, =?-in, =?-no, =?-not, =?-out, all_in, all_out, and_in, and_l, and_r, if-true, imp_in}
 use Rattle.sets.specs.TestLaws.{imp_out, not_in, not_out, ≤?_in, ≤?_out}
 use Rattle.sets.specs.Tests.{count}
 use Rattle.model_laws.specs.MapLaws.{option_map-some}
@@ -35,27 +35,27 @@ module _ (s n : List ℕ) (c : ℕ) where
       record {
         kind = ≤?_out _ _ (and_l _ _ t);
         low = λ j l. ≤?_out _ _ (all_out 8 _ (and_l _ _ t1) j l);
-        distinct = λ j k l h low e. ==-out _ _ (imp_out _ _ (imp_out _ _ (all_out 8 _ (all_out 8 _ (and_l _ _ t2) j l) k h) (<?_in _ _ low)) (==-in _ _ e));
-        uses = λ e. <?_out _ _ (and_l _ _ (imp_out _ _ (and_r _ _ t2) (==-in _ _ e)));
-        members = λ e j l low. <?_out _ _ (imp_out _ _ (all_out 8 _ (and_r _ _ (imp_out _ _ (and_r _ _ t2) (==-in _ _ e))) j l) (<?_in _ _ low));
+        distinct = λ j k l h low e. =?-out _ _ (imp_out _ _ (imp_out _ _ (all_out 8 _ (all_out 8 _ (and_l _ _ t2) j l) k h) (<?_in _ _ low)) (=?-in _ _ e));
+        uses = λ e. <?_out _ _ (and_l _ _ (imp_out _ _ (and_r _ _ t2) (=?-in _ _ e)));
+        members = λ e j l low. <?_out _ _ (imp_out _ _ (all_out 8 _ (and_r _ _ (imp_out _ _ (and_r _ _ t2) (=?-in _ _ e))) j l) (<?_in _ _ low));
       }
 
   pub facts_proper : ProperFacts → proper_at s n c ≡ true
   unfolding proper_at slot_low slots_apart slot_apart members_low sets_low Distinct
   facts_proper f =
       and_in _ _ (≤?_in _ _ f.kind) (and_in _ _ (all_in 8 _ (λ j l. ≤?_in _ _ (f.low j l)))
-      (and_in _ _ (all_in 8 _ (λ j l. all_in 8 _ (λ k h. imp_in _ _ (λ low. imp_in _ _ (λ e. ==-in _ _ (f.distinct j k l h (<?_out _ _ low) (==-out _ _ e)))))))
-      (imp_in _ _ (λ e. and_in _ _ (<?_in _ _ (f.uses (==-out _ _ e)))
-      (all_in 8 _ (λ j l. imp_in _ _ (λ low. <?_in _ _ (f.members (==-out _ _ e) j l (<?_out _ _ low)))))))))
+      (and_in _ _ (all_in 8 _ (λ j l. all_in 8 _ (λ k h. imp_in _ _ (λ low. imp_in _ _ (λ e. =?-in _ _ (f.distinct j k l h (<?_out _ _ low) (=?-out _ _ e)))))))
+      (imp_in _ _ (λ e. and_in _ _ (<?_in _ _ (f.uses (=?-out _ _ e)))
+      (all_in 8 _ (λ j l. imp_in _ _ (λ low. <?_in _ _ (f.members (=?-out _ _ e) j l (<?_out _ _ low)))))))))
 
   pub proper_component : proper s n ≡ true → c < components → kind_at n c ≢ 0 → ProperFacts
   unfolding proper proper_if
-  proper_component t l ne = proper_facts (imp_out _ _ (all_out 32 _ t c l) (not_in _ (==-not _ _ ne)))
+  proper_component t l ne = proper_facts (imp_out _ _ (all_out 32 _ t c l) (not_in _ (=?-not _ _ ne)))
 
 -- a component that is specified has a kind
 pub specified_kind : (n : List ℕ) (c : ℕ) → specified_at n c ≡ true → kind_at n c ≢ 0
 unfolding specified_at
-specified_kind n c t = ==-no _ _ (not_out _ (and_r _ _ t))
+specified_kind n c t = =?-no _ _ (not_out _ (and_r _ _ t))
 
 -- fewer than eight versions leave a slot free
 pub free-slot : (s n : List ℕ) (c : ℕ) → proper s n ≡ true → c < components → specified (specs_of s n) c ≡ true → how_many (specs_of s n) c < 8

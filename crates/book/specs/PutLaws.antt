@@ -21,7 +21,7 @@ use Rattle.model.specs.Maps.{Map, change, is_some, only_if, option_map, or_else,
 use Rattle.model.specs.Queries.{undefined}
 use Rattle.sets.specs.SetLaws.{bit_below, bit_limit, bit_zero}
 use Rattle.sets.specs.Sets.{Set, bit}
-use Rattle.sets.specs.TestLaws.{==-not, ==-out, and_no, and_r, bool?, clash, fails, if-true, not_in, same?}
+use Rattle.sets.specs.TestLaws.{=?-not, =?-out, and_no, and_r, bool?, clash, fails, if-true, not_in, same?}
 use Rattle.model_laws.specs.Accepted.{not_defined}
 use Rattle.model_laws.specs.MapLaws.{is_some_no, is_some_out, option_map-some}
 use Rattle.model_laws.specs.Notions.{distinct, here}
@@ -158,16 +158,16 @@ no_system s n c e = is_some_no _ e
 -- what is a module is no system, and the other way round
 pub module_or_system : (s n : List ℕ) (c : ℕ) → is_module (modules_of n) c ≡ true → is_system (systems_of s n) c ≡ false
 unfolding kind_is
-module_or_system s n c t = is_system_plain s n c ∙ and_no _ _ (λ l. ==-not _ _ (λ q.
-    omega (arith, q, ==-out _ _ (and_r _ _ (sym (is_module_plain s n c) ∙ t)))))
+module_or_system s n c t = is_system_plain s n c ∙ and_no _ _ (λ l. =?-not _ _ (λ q.
+    omega (arith, q, =?-out _ _ (and_r _ _ (sym (is_module_plain s n c) ∙ t)))))
 
 pub kind_of_module : (s n : List ℕ) (c : ℕ) → is_module (modules_of n) c ≡ true → kind_at n c ≡ 2
 unfolding kind_is
-kind_of_module s n c t = ==-out _ _ (and_r _ _ (sym (is_module_plain s n c) ∙ t))
+kind_of_module s n c t = =?-out _ _ (and_r _ _ (sym (is_module_plain s n c) ∙ t))
 
 pub kind_of_system : (s n : List ℕ) (c : ℕ) → is_system (systems_of s n) c ≡ true → kind_at n c ≡ 3
 unfolding kind_is
-kind_of_system s n c t = ==-out _ _ (and_r _ _ (sym (is_system_plain s n c) ∙ t))
+kind_of_system s n c t = =?-out _ _ (and_r _ _ (sym (is_system_plain s n c) ∙ t))
 
 module _ (s n : List ℕ) (c v i : ℕ) (ls : length s ≡ 576) (ln : length n ≡ 8768) (t : TakesVersion s n c v) (f : FreePlace n c i) where
   i< : i < 256

@@ -17,8 +17,8 @@ use Rattle.model.specs.Limits.{ModuleLimits, SpecLimits, SystemLimits}
 use Rattle.model.specs.Maps.{Map, and_then, has, is_some, only_if, option_map, or_else}
 use Rattle.model.specs.Rules.{B5, B5_at, each_composition, p, r}
 use Rattle.sets.specs.Sets.{Set}
-use Rattle.sets.specs.TestLaws.{<?_out, ==-not, ==-out, all_out, and_in, and_l, and_r, bool?, if-false, if-true, imp_out, not_in}
-use Rattle.sets.specs.Tests.{◌&◌, if◌then◌else◌}
+use Rattle.sets.specs.TestLaws.{<?_out, =?-not, =?-out, all_out, and_in, and_l, and_r, bool?, if-false, if-true, imp_out, not_in}
+use Rattle.sets.specs.Tests.{◌&◌, if?◌then◌else◌}
 use Rattle.model_laws.specs.Frame.{composed_system, member_composed}
 use Rattle.model_laws.specs.ListLaws.{only_some}
 use Rattle.model_laws.specs.MapLaws.{and_then_out, has-map, has_out, if_there_out, is_some_out, no_some, option_map_out, option_map-some}
@@ -35,8 +35,8 @@ unfolding only_if has ◌&◌
 has_only true x f = refl
 has_only false x f = refl
 
-and_then_only : {A B : Type 0} (t : Bool) (x : A) (g : A → Option B) → and_then (only_if t x) g ≡ (if t then g x else none)
-unfolding only_if and_then if◌then◌else◌
+and_then_only : {A B : Type 0} (t : Bool) (x : A) (g : A → Option B) → and_then (only_if t x) g ≡ (if? t then g x else none)
+unfolding only_if and_then if?◌then◌else◌
 and_then_only true x g = refl
 and_then_only false x g = refl
 
@@ -44,7 +44,7 @@ and_then_only false x g = refl
 pub kind_specified : (n : List ℕ) (k c : ℕ) → kind_is n k c ≡ true → k ≢ 0 → specified_at n c ≡ true
 unfolding kind_is specified_at
 kind_specified n k c t ne =
-    and_in _ _ (and_l _ _ t) (not_in _ (==-not _ _ (λ q. ne (sym (==-out _ _ (and_r _ _ t)) ∙ q))))
+    and_in _ _ (and_l _ _ t) (not_in _ (=?-not _ _ (λ q. ne (sym (=?-out _ _ (and_r _ _ t)) ∙ q))))
 
 pub no_place : (n : List ℕ) (c v : ℕ) → specified_at n c ≡ false → place_of n c v ≡ none
 unfolding place_of
@@ -92,7 +92,7 @@ module _ (s n : List ℕ) where
   is_module_plain c = is_some_only _ _
 
   pub implementation_plain : (c v : ℕ)
-      → implementation (modules_of n) c v ≡ (if kind_is n 2 c then option_map (λ i. byte (implementation_at n i)) (place_of n c v) else none)
+      → implementation (modules_of n) c v ≡ (if? kind_is n 2 c then option_map (λ i. byte (implementation_at n i)) (place_of n c v) else none)
   unfolding implementation modules_of module_at
   implementation_plain c v = and_then_only _ _ _
 
@@ -105,18 +105,18 @@ module _ (s n : List ℕ) where
   usable_plain c d = has_only _ _ _
 
   pub composition_plain : (c v : ℕ)
-      → composition (systems_of s n) c v ≡ (if kind_is n 3 c then option_map (composition_at s n) (place_of n c v) else none)
+      → composition (systems_of s n) c v ≡ (if? kind_is n 3 c then option_map (composition_at s n) (place_of n c v) else none)
   unfolding composition systems_of system_at
   composition_plain c v = and_then_only _ _ _
 
-  pub member_plain : (c v m : ℕ) → member (systems_of s n) c v m ≡ (if kind_is n 3 c then and_then (place_of n c v) (λ i. composition_at s n i m) else none)
+  pub member_plain : (c v m : ℕ) → member (systems_of s n) c v m ≡ (if? kind_is n 3 c then and_then (place_of n c v) (λ i. composition_at s n i m) else none)
   unfolding member
   member_plain c v m = ap (λ (o : Option (Map ℕ)). and_then o (λ k. k m)) (composition_plain c v) ∙ by (kind_is n 3 c)
     where
-      by : (t : Bool) → and_then (if t then option_map (composition_at s n) (place_of n c v) else none) (λ k. k m)
-          ≡ (if t then and_then (place_of n c v) (λ i. composition_at s n i m) else none)
-      by true = unfold if◌then◌else◌ in then_map _ _ _
-      by false = unfold if◌then◌else◌ and_then in refl
+      by : (t : Bool) → and_then (if? t then option_map (composition_at s n) (place_of n c v) else none) (λ k. k m)
+          ≡ (if? t then and_then (place_of n c v) (λ i. composition_at s n i m) else none)
+      by true = unfold if?◌then◌else◌ in then_map _ _ _
+      by false = unfold if?◌then◌else◌ and_then in refl
 
 -- ---- the numbers of a plain book that two arrays mean are below their limits, whatever stands in them
 
@@ -148,8 +148,8 @@ place-limit n c v i e = elim (bool? (specified_at n c)) [
   | inr t ↦ no_some (sym (if-false _ _ _ t) ∙ e)
 ]
 
-pub if_none : {A : Type 0} (t : Bool) (o : Option A) → o ≡ none → (if t then o else none) ≡ none
-unfolding if◌then◌else◌
+pub if_none : {A : Type 0} (t : Bool) (o : Option A) → o ≡ none → (if? t then o else none) ≡ none
+unfolding if?◌then◌else◌
 if_none true o e = e
 if_none false o e = refl
 
@@ -158,8 +158,8 @@ pub book_ext : {S S' : Specs} {M M' : Modules} {Y Y' : Systems} → S ≡ S' →
     → ◌≡◌ {A = Book} (record { specs = S; modules = M; systems = Y }) (record { specs = S'; modules = M'; systems = Y' })
 book_ext p q r = cc
 
-pub if_some : {A : Type 0} (t : Bool) (o : Option A) (x : A) → (if t then o else none) ≡ some x → (t ≡ true) × (o ≡ some x)
-unfolding if◌then◌else◌
+pub if_some : {A : Type 0} (t : Bool) (o : Option A) (x : A) → (if? t then o else none) ≡ some x → (t ≡ true) × (o ≡ some x)
+unfolding if?◌then◌else◌
 if_some true o x e = (refl, e)
 if_some false o x e = no_some e
 

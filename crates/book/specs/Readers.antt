@@ -18,9 +18,9 @@ use Rattle.model.specs.Book.{requires, specified, standard, usable, versions}
 use Rattle.model.specs.Maps.{and_then, has, is_some, only_if, option_map, or_else}
 use Rattle.sets.specs.SetLaws.{bit_zero}
 use Rattle.sets.specs.Sets.{Set, bit}
-use Rattle.sets.specs.TestLaws.{<?_in, <?_no, <?_out, ==-in, ==-no, ==-not, and-false, and_in, and_no, and-true, bool?, fails}
+use Rattle.sets.specs.TestLaws.{<?_in, <?_no, <?_out, =?-in, =?-no, =?-not, and-false, and_in, and_no, and-true, bool?, fails}
 use Rattle.sets.specs.TestLaws.{if-false, if-true, not_in, not_out}
-use Rattle.sets.specs.Tests.{◌<?◌, ◌==◌, ~◌}
+use Rattle.sets.specs.Tests.{◌<?◌, ◌=?◌, ~◌}
 use Rattle.model_laws.specs.ListLaws.{only_some}
 use Rattle.model_laws.specs.MapLaws.{is_some_in, is_some_out, no_some, option?, option_map_out, option_map-some}
 use Rattle.sets.specs.Sets as sets
@@ -35,19 +35,19 @@ no_version n c v e = elim (bool? (specified_at n c)) [
 module _ (n : List ℕ) (c : ℕ) (c< : c < components) where
   pub specified_at_lem : (kind_at n c ≡ 0 → ⊥) → specified_at n c ≡ true
   unfolding specified_at
-  specified_at_lem ne = and_in _ _ (<?_in _ _ c<) (not_in _ (==-not _ _ ne))
+  specified_at_lem ne = and_in _ _ (<?_in _ _ c<) (not_in _ (=?-not _ _ ne))
 
   pub kind_at_lem : (k : ℕ) → kind_at n c ≡ k → kind_is n k c ≡ true
   unfolding kind_is
-  kind_at_lem k e = and_in _ _ (<?_in _ _ c<) (==-in _ _ e)
+  kind_at_lem k e = and_in _ _ (<?_in _ _ c<) (=?-in _ _ e)
 
 pub not-specified : (n : List ℕ) (c : ℕ) → kind_at n c ≡ 0 → specified_at n c ≡ false
 unfolding specified_at
-not-specified n c e = and_no _ _ (λ t. fails _ (λ q. ==-no _ _ (not_out _ q) e))
+not-specified n c e = and_no _ _ (λ t. fails _ (λ q. =?-no _ _ (not_out _ q) e))
 
 pub not_kind : (n : List ℕ) (k c : ℕ) → (kind_at n c ≡ k → ⊥) → kind_is n k c ≡ false
 unfolding kind_is
-not_kind n k c ne = and_no _ _ (λ t. ==-not _ _ ne)
+not_kind n k c ne = and_no _ _ (λ t. =?-not _ _ ne)
 
 -- ---- the search for a place
 
@@ -104,10 +104,10 @@ fresh_plain s n zero_kind =
     (fun_ext (λ c. unfold systems_of in only_no _ _ (no_kind 3 c (omega arith))))
   where
     unspecified : (c : ℕ) → specified_at n c ≡ false
-    unspecified c = unfold specified_at in and_no _ _ (λ t. fails _ (λ q. ==-no _ _ (not_out _ q) (zero_kind c (<?_out _ _ t))))
+    unspecified c = unfold specified_at in and_no _ _ (λ t. fails _ (λ q. =?-no _ _ (not_out _ q) (zero_kind c (<?_out _ _ t))))
 
     no_kind : (k c : ℕ) → 0 < k → kind_is n k c ≡ false
-    no_kind k c h = unfold kind_is in and_no _ _ (λ t. ==-not _ _ (λ q. omega (arith, h, zero_kind c (<?_out _ _ t), q)))
+    no_kind k c h = unfold kind_is in and_no _ _ (λ t. =?-not _ _ (λ q. omega (arith, h, zero_kind c (<?_out _ _ t), q)))
 
 pub byte_small : (x : ℕ) → x < 256 → x ≡ byte x
 unfolding byte
@@ -115,15 +115,15 @@ byte_small x h = sym (mod-eq_of_lt h)
 
 module _ (s n : List ℕ) (c : ℕ) (c< : c < components) where
   pub specified_is : not (eqb (kind_at n c) 0) ≡ specified (specs_of s n) c
-  unfolding specified_at ~◌ ◌==◌
+  unfolding specified_at ~◌ ◌=?◌
   specified_is = sym (specified_plain s n c ∙ and-true _ _ (<?_in _ _ c<))
 
   pub module_is : eqb (kind_at n c) 2 ≡ is_module (modules_of n) c
-  unfolding kind_is ◌==◌
+  unfolding kind_is ◌=?◌
   module_is = sym (is_module_plain s n c ∙ and-true _ _ (<?_in _ _ c<))
 
   pub system_is : eqb (kind_at n c) 3 ≡ is_system (systems_of s n) c
-  unfolding kind_is ◌==◌
+  unfolding kind_is ◌=?◌
   system_is = sym (is_system_plain s n c ∙ and-true _ _ (<?_in _ _ c<))
 
   pub provides_none : kind_at n c ≡ 0 → bit 0 ≡ provides (specs_of s n) c

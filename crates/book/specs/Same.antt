@@ -15,9 +15,9 @@ use Rattle.model.specs.Book.{Spec, System, components, implementation, provides,
 use Rattle.model.specs.Maps.{Map, only_if, option_map}
 use Rattle.model.specs.Rules.{p}
 use Rattle.sets.specs.Sets.{Set}
-use Rattle.sets.specs.TestLaws.{<?_no, <?_out, ==-no, all_in, all_out, all_same, and-false, bool?, fails, if-true, imp_in, imp_out}
+use Rattle.sets.specs.TestLaws.{<?_no, <?_out, =?-no, all_in, all_out, all_same, and-false, bool?, fails, if-true, imp_in, imp_out}
 use Rattle.sets.specs.TestLaws.{not_out, same?}
-use Rattle.sets.specs.Tests.{◌&◌, ◌<?◌, ◌==◌, ◌⇒◌, ◌≤?◌, if◌then◌else◌, ~◌}
+use Rattle.sets.specs.Tests.{◌&◌, ◌<?◌, ◌=?◌, ◌⇒◌, ◌≤?◌, if?◌then◌else◌, ~◌}
 use Rattle.model_laws.specs.MapLaws.{option_map_out}
 
 -- what stands in the head of a component
@@ -74,17 +74,17 @@ place-slot n c v i e =
 
 pub specified_same : (n n' : List ℕ) (c : ℕ) → kind_at n' c ≡ kind_at n c → specified_at n' c ≡ specified_at n c
 unfolding specified_at
-specified_same n n' c e = ap (λ (k : ℕ). c <? components & ~ (k == 0)) e
+specified_same n n' c e = ap (λ (k : ℕ). c <? components & ~ (k =? 0)) e
 
 pub kind_same : (n n' : List ℕ) (k c : ℕ) → kind_at n' c ≡ kind_at n c → kind_is n' k c ≡ kind_is n k c
 unfolding kind_is
-kind_same n n' k c e = ap (λ (x : ℕ). c <? components & x == k) e
+kind_same n n' k c e = ap (λ (x : ℕ). c <? components & x =? k) e
 
 module _ (s n s' n' : List ℕ) (c : ℕ) (same : SameComponent s n s' n' c) where
   place_same : (v : ℕ) → place_of n' c v ≡ place_of n c v
   unfolding place_of
-  place_same v = ap₂ (λ (t : Bool) (o : Option ℕ). if t then option_map (λ j. c * 8 + j) o else none)
-      (specified_same n n' c same.head.kind) (slot_same _ _ v (λ j l. ap (λ (x : ℕ). x == v) (same.slots j l)))
+  place_same v = ap₂ (λ (t : Bool) (o : Option ℕ). if? t then option_map (λ j. c * 8 + j) o else none)
+      (specified_same n n' c same.head.kind) (slot_same _ _ v (λ j l. ap (λ (x : ℕ). x =? v) (same.slots j l)))
 
   at_place : {A : Type 0} (g g' : ℕ → A) → ((j : ℕ) → j < 8 → g' (c * 8 + j) ≡ g (c * 8 + j)) → (v i : ℕ) → place_of n c v ≡ some i → g' i ≡ g i
   at_place g g' h v i e = let z = place-slot n c v i e in rw z.2 (h z.0 z.1)
@@ -111,8 +111,8 @@ module _ (s n s' n' : List ℕ) (c : ℕ) (same : SameComponent s n s' n' c) whe
       ap₂ ◌&◌ (ap (λ (k : ℕ). k ≤? 3) same.head.kind)
       (ap₂ ◌&◌ (all_same 8 _ _ (λ j l. ap (λ (x : ℕ). x ≤? versions) (slots j l)))
       (ap₂ ◌&◌ (all_same 8 _ _ (λ j l. all_same 8 _ _ (λ k h.
-      ap₂ (λ (x y : ℕ). x <? versions ⇒ x == y ⇒ j == k) (slots j l) (slots k h))))
-      (ap₂ (λ (k : ℕ) (t : Bool). k == 3 ⇒ t) same.head.kind
+      ap₂ (λ (x y : ℕ). x <? versions ⇒ x =? y ⇒ j =? k) (slots j l) (slots k h))))
+      (ap₂ (λ (k : ℕ) (t : Bool). k =? 3 ⇒ t) same.head.kind
       (ap₂ (λ (x : ℕ) (t : Bool). x <? 2 ^ 32 & t) same.head.usable
       (all_same 8 _ _ (λ j l. ap₂ (λ (x y : ℕ). x <? versions ⇒ y <? 2 ^ 32) (slots j l) (same.places j l).members))))))
 
@@ -206,7 +206,7 @@ module _ (s n s' n' : List ℕ) (c : ℕ) (same : (d : ℕ) → d < 32 → d ≢
   pub proper_rest : proper s n ≡ true → (kind_at n' c ≢ 0 → proper_at s' n' c ≡ true) → proper s' n' ≡ true
   unfolding proper proper_if
   proper_rest p h = all_in 32 _ (λ d l. imp_in _ _ (λ t. elim (same? d c) [
-    | inl e ↦ rw e (h (λ z. ==-no _ _ (not_out _ t) (ap (kind_at n') e ∙ z)))
+    | inl e ↦ rw e (h (λ z. =?-no _ _ (not_out _ t) (ap (kind_at n') e ∙ z)))
     | inr ne ↦ same_proper s n s' n' d (same d l ne)
-        ∙ imp_out _ _ (all_out 32 _ p d l) (ap (λ (k : ℕ). ~ (k == 0)) (sym (same d l ne).head.kind) ∙ t)
+        ∙ imp_out _ _ (all_out 32 _ p d l) (ap (λ (k : ℕ). ~ (k =? 0)) (sym (same d l ne).head.kind) ∙ t)
   ]))

@@ -13,10 +13,10 @@ use Rattle.model.specs.Questions.{free}
 use Rattle.model.specs.Rules.{p}
 use Rattle.sets.specs.SetLaws.{bit_zero}
 use Rattle.sets.specs.Sets.{Set, bit, with}
-use Rattle.sets.specs.TestLaws.{<?_in, <?_no, <?_out, ==-in, ==-no, ==-not, ==-out, ==-same, and-false, and_in, and_l, and_r}
+use Rattle.sets.specs.TestLaws.{<?_in, <?_no, <?_out, =?-in, =?-no, =?-not, =?-out, =?-same, and-false, and_in, and_l, and_r}
 use Rattle.sets.specs.TestLaws.{and_swap, and-true, any_in, any_out, bool?, clash, count_mono, count_strict, fails, if-false}
 use Rattle.sets.specs.TestLaws.{if-true, iff→≡, or-false, same?}
-use Rattle.sets.specs.Tests.{◌&◌, ◌<?◌, ◌==◌, ◌or◌, any, count, if◌then◌else◌}
+use Rattle.sets.specs.Tests.{◌&◌, ◌<?◌, ◌=?◌, ◌or◌, any, count, if?◌then◌else◌}
 use Rattle.model_laws.specs.KeepModules.{gone}
 use Rattle.model_laws.specs.ListLaws.{first_from_least, first_from-none, first_from-some, only_none, only_some}
 use Rattle.model_laws.specs.MapLaws.{is_some_in, is_some_out, no_some, option?}
@@ -46,22 +46,22 @@ module _ (vs : ℕ → ℕ) (v : ℕ) where
     | inr t ↦ no_some (sym (if-false _ _ _ t) ∙ e)
   ]
     where
-      found : first_from 8 0 (λ j. only_if (vs j == v) j) ≡ some j → v < versions → (j < 8) × (vs j ≡ v) × (v < versions) × ((k : ℕ) → k < j → vs k ≢ v)
+      found : first_from 8 0 (λ j. only_if (vs j =? v) j) ≡ some j → v < versions → (j < 8) × (vs j ≡ v) × (v < versions) × ((k : ℕ) → k < j → vs k ≢ v)
       found q l =
-          let z = first_from_least 8 0 (λ j. only_if (vs j == v) j) j q in
-          let a = first_from-some 8 0 (λ j. only_if (vs j == v) j) j q in
-          let o = only_some (vs z.0 == v) z.0 j z.1 in
-          let p = only_some (vs a.0 == v) a.0 j a.2 in (
+          let z = first_from_least 8 0 (λ j. only_if (vs j =? v) j) j q in
+          let a = first_from-some 8 0 (λ j. only_if (vs j =? v) j) j q in
+          let o = only_some (vs z.0 =? v) z.0 j z.1 in
+          let p = only_some (vs a.0 =? v) a.0 j a.2 in (
             omega (arith, a.1, p.1),
-            rw o.1 at (==-out _ _ o.0),
+            rw o.1 at (=?-out _ _ o.0),
             l,
-            λ k h. ==-no _ _ (only_none (vs k == v) k (z.2 k zero-le (omega (arith, o.1)))),
+            λ k h. =?-no _ _ (only_none (vs k =? v) k (z.2 k zero-le (omega (arith, o.1)))),
           )
 
   pub slot-none : slot vs v ≡ none → v < versions → (k : ℕ) → k < 8 → vs k ≢ v
   unfolding slot
   slot-none e l k h =
-      ==-no _ _ (only_none (vs k == v) k (first_from-none 8 0 (λ j. only_if (vs j == v) j) (sym (if-true _ _ _ (<?_in _ _ l)) ∙ e) k zero-le (omega arith)))
+      =?-no _ _ (only_none (vs k =? v) k (first_from-none 8 0 (λ j. only_if (vs j =? v) j) (sym (if-true _ _ _ (<?_in _ _ l)) ∙ e) k zero-le (omega arith)))
 
   -- the slot that the search finds
   pub slot_found : (j : ℕ) → v < versions → j < 8 → vs j ≡ v → ((k : ℕ) → k < j → vs k ≢ v) → slot vs v ≡ some j
@@ -84,10 +84,10 @@ module _ (vs : ℕ → ℕ) (v : ℕ) where
   slot_high h = if-false _ _ _ (fails _ (λ t. omega (arith, <?_out _ _ t)))
 
 -- two rows of slots that agree on where v stands
-pub slot_same : (vs ws : ℕ → ℕ) (v : ℕ) → ((j : ℕ) → j < 8 → (vs j == v) ≡ (ws j == v)) → slot vs v ≡ slot ws v
+pub slot_same : (vs ws : ℕ → ℕ) (v : ℕ) → ((j : ℕ) → j < 8 → (vs j =? v) ≡ (ws j =? v)) → slot vs v ≡ slot ws v
 unfolding slot
 slot_same vs ws v h =
-    ap (λ (o : Option ℕ). if v <? versions then o else none)
+    ap (λ (o : Option ℕ). if? v <? versions then o else none)
     (first_from_same 8 0 _ _ (λ j a l. ap (λ (t : Bool). only_if t j) (h j (omega arith))))
 
 -- no version stands in two slots
@@ -101,7 +101,7 @@ module _ (vs ws : ℕ → ℕ) (j v : ℕ) (j< : j < 8) (v< : v < versions) (res
     other : (u : ℕ) → u ≢ v → slot ws u ≡ slot vs u
     other u ne = elim (bool? (u <? versions)) [
       | inl t ↦ slot_same ws vs u (λ k l. elim (same? k j) [
-        | inl e ↦ rw e (rw here (==-not _ _ (λ q. ne (sym q))) ∙ sym (==-not _ _ (λ q. omega (arith, free, <?_out _ _ t, q))))
+        | inl e ↦ rw e (rw here (=?-not _ _ (λ q. ne (sym q))) ∙ sym (=?-not _ _ (λ q. omega (arith, free, <?_out _ _ t, q))))
         | inr n ↦ rw (rest k l n) refl
       ])
       | inr t ↦ slot_high ws u (<?_no _ _ t) ∙ sym (slot_high vs u (<?_no _ _ t))
@@ -111,8 +111,8 @@ module _ (vs ws : ℕ → ℕ) (j v : ℕ) (j< : j < 8) (v< : v < versions) (res
     unfolding put
     slot_put = fun_ext (λ u. elim (same? u v) [
       | inl e ↦ rw e (slot_found ws v j v< j< here (λ k l. rw (rest k (omega arith) (omega arith)) (slot-none vs v new v< k (omega arith))))
-          ∙ sym (if-true _ _ _ (==-in u v e))
-      | inr n ↦ other u n ∙ sym (if-false _ _ _ (==-not u v n))
+          ∙ sym (if-true _ _ _ (=?-in u v e))
+      | inr n ↦ other u n ∙ sym (if-false _ _ _ (=?-not u v n))
     ])
 
     pub distinct_put : Distinct vs → Distinct ws
@@ -136,14 +136,14 @@ module _ (vs ws : ℕ → ℕ) (j v : ℕ) (j< : j < 8) (v< : v < versions) (res
       | inl e ↦ rw e (slot_absent ws v (λ k l q. elim (same? k j) [
         | inl s ↦ omega (arith, sym gone ∙ ap ws (sym s) ∙ q)
         | inr n ↦ n (sym (one j k j< l (rw there v<) (there ∙ sym q ∙ rest k l n)))
-      ])) ∙ sym (if-true _ _ _ (==-in u v e))
-      | inr n ↦ elsewhere u n ∙ sym (if-false _ _ _ (==-not u v n))
+      ])) ∙ sym (if-true _ _ _ (=?-in u v e))
+      | inr n ↦ elsewhere u n ∙ sym (if-false _ _ _ (=?-not u v n))
     ])
       where
         elsewhere : (u : ℕ) → u ≢ v → slot ws u ≡ slot vs u
         elsewhere u n = elim (bool? (u <? versions)) [
           | inl t ↦ slot_same ws vs u (λ k l. elim (same? k j) [
-            | inl e ↦ rw e (==-not _ _ (λ q. omega (arith, sym gone ∙ q, <?_out _ _ t)) ∙ sym (==-not _ _ (λ q. n (sym q ∙ there))))
+            | inl e ↦ rw e (=?-not _ _ (λ q. omega (arith, sym gone ∙ q, <?_out _ _ t)) ∙ sym (=?-not _ _ (λ q. n (sym q ∙ there))))
             | inr m ↦ rw (rest k l m) refl
           ])
           | inr t ↦ slot_high ws u (<?_no _ _ t) ∙ sym (slot_high vs u (<?_no _ _ t))
@@ -163,20 +163,20 @@ module _ (vs ws : ℕ → ℕ) (j v : ℕ) (j< : j < 8) (v< : v < versions) (res
 
 module _ (vs : ℕ → ℕ) (one : Distinct vs) (full : (j : ℕ) → j < 8 → vs j < versions) where
   -- n slots hold n versions
-  many : (n : ℕ) → n ≤ 8 → n ≤ count versions (λ u. any n (λ k. vs k == u))
+  many : (n : ℕ) → n ≤ 8 → n ≤ count versions (λ u. any n (λ k. vs k =? u))
   unfolding Distinct
   many zero h = zero-le
   many (suc n) h =
-      let more = count_strict versions (λ u. any n (λ k. vs k == u)) (λ u. any (suc n) (λ k. vs k == u))
+      let more = count_strict versions (λ u. any n (λ k. vs k =? u)) (λ u. any (suc n) (λ k. vs k =? u))
       (λ u l t. (let q = any_out n _ t in any_in (suc n) _ q.0 (omega (arith, q.1)) q.2))
       (vs n) (full n h)
-      (fails _ (λ t. (let q = any_out n _ t in omega (arith, q.1, one q.0 n (omega (arith, q.1)) h (full q.0 (omega (arith, q.1))) (==-out _ _ q.2)))))
-      (any_in (suc n) _ n (omega arith) (==-same (vs n)))
+      (fails _ (λ t. (let q = any_out n _ t in omega (arith, q.1, one q.0 n (omega (arith, q.1)) h (full q.0 (omega (arith, q.1))) (=?-out _ _ q.2)))))
+      (any_in (suc n) _ n (omega arith) (=?-same (vs n)))
       in omega (arith, many n (omega arith), more)
 
-  slot-any : (u : ℕ) → u < versions → any 8 (λ k. vs k == u) ≡ true → is_some (slot vs u) ≡ true
+  slot-any : (u : ℕ) → u < versions → any 8 (λ k. vs k =? u) ≡ true → is_some (slot vs u) ≡ true
   slot-any u l t = elim (option? (slot vs u)) [
-    | inl n ↦ (let q = any_out 8 _ t in absurd (slot-none vs u n l q.0 q.1 (==-out _ _ q.2)))
+    | inl n ↦ (let q = any_out 8 _ t in absurd (slot-none vs u n l q.0 q.1 (=?-out _ _ q.2)))
     | inr y ↦ is_some_in _ y.1
   ]
 
@@ -186,7 +186,7 @@ module _ (vs : ℕ → ℕ) (one : Distinct vs) (full : (j : ℕ) → j < 8 → 
 -- ---- the versions that stand in the first j slots, as the loop over them finds them
 
 unfoldable pub among_first : ℕ → (ℕ → ℕ) → Set
-among_first j vs u = u <? versions & any j (λ k. vs k == u)
+among_first j vs u = u <? versions & any j (λ k. vs k =? u)
 
 pub among_none : (vs : ℕ → ℕ) → bit 0 ≡ among_first 0 vs
 unfolding among_first any
@@ -195,17 +195,17 @@ among_none vs = fun_ext (λ u. bit_zero u ∙ sym (and_swap _ _ ∙ and-false _ 
 pub among_in : (vs : ℕ → ℕ) (j x s t : ℕ) → bit s ≡ among_first j vs → x ≡ vs j → x < versions → bit t ≡ with (bit s) x → bit t ≡ among_first (j + 1) vs
 unfolding among_first any with
 among_in vs j x s t a e l w = w ∙ fun_ext (λ u. rw add-one (elim (bool? (u <? versions)) [
-  | inl y ↦ ap₂ ◌or◌ (eq_flip u x ∙ ap (λ (z : ℕ). z == u) e) (ap (λ (q : Set). q u) a ∙ and-true _ _ y) ∙ sym (and-true _ _ y)
-  | inr n ↦ or-false _ _ (==-not u x (λ q. omega (arith, q, l, <?_no _ _ n))) ∙ ap (λ (q : Set). q u) a ∙ and-false _ _ n ∙ sym (and-false _ _ n)
+  | inl y ↦ ap₂ ◌or◌ (eq_flip u x ∙ ap (λ (z : ℕ). z =? u) e) (ap (λ (q : Set). q u) a ∙ and-true _ _ y) ∙ sym (and-true _ _ y)
+  | inr n ↦ or-false _ _ (=?-not u x (λ q. omega (arith, q, l, <?_no _ _ n))) ∙ ap (λ (q : Set). q u) a ∙ and-false _ _ n ∙ sym (and-false _ _ n)
 ]))
   where
-    eq_flip : (u x : ℕ) → (u == x) ≡ (x == u)
-    eq_flip u x = iff→≡ _ _ (λ t. ==-in x u (sym (==-out u x t))) (λ t. ==-in u x (sym (==-out x u t)))
+    eq_flip : (u x : ℕ) → (u =? x) ≡ (x =? u)
+    eq_flip u x = iff→≡ _ _ (λ t. =?-in x u (sym (=?-out u x t))) (λ t. =?-in u x (sym (=?-out x u t)))
 
 pub among_out : (vs : ℕ → ℕ) (j x s : ℕ) → bit s ≡ among_first j vs → x ≡ vs j → versions ≤ x → bit s ≡ among_first (j + 1) vs
 unfolding among_first any
 among_out vs j x s a e l = a ∙ fun_ext (λ u. rw add-one (elim (bool? (u <? versions)) [
-  | inl y ↦ and-true _ _ y ∙ sym (and-true _ _ y ∙ or-false _ _ (==-not _ _ (λ q. omega (arith, e ∙ q, l, <?_out _ _ y))))
+  | inl y ↦ and-true _ _ y ∙ sym (and-true _ _ y ∙ or-false _ _ (=?-not _ _ (λ q. omega (arith, e ∙ q, l, <?_out _ _ y))))
   | inr n ↦ and-false _ _ n ∙ sym (and-false _ _ n)
 ]))
 
@@ -213,11 +213,11 @@ pub among-all : (vs : ℕ → ℕ) (u : ℕ) → among_first 8 vs u ≡ is_some 
 unfolding among_first
 among-all vs u = iff→≡ _ _
     (λ t. elim (option? (slot vs u)) [
-      | inl n ↦ (let q = any_out 8 _ (and_r _ _ t) in absurd (slot-none vs u n (<?_out _ _ (and_l _ _ t)) q.0 q.1 (==-out _ _ q.2)))
+      | inl n ↦ (let q = any_out 8 _ (and_r _ _ t) in absurd (slot-none vs u n (<?_out _ _ (and_l _ _ t)) q.0 q.1 (=?-out _ _ q.2)))
       | inr y ↦ is_some_in _ y.1
     ])
     (λ t. (let y = is_some_out _ t in let z = slot-some vs u y.0 y.1 in
-    and_in _ _ (<?_in _ _ z.2) (any_in 8 _ y.0 z.0 (==-in _ _ z.1))))
+    and_in _ _ (<?_in _ _ z.2) (any_in 8 _ y.0 z.0 (=?-in _ _ z.1))))
 
 pub distinct_same : (vs ws : ℕ → ℕ) → ((j : ℕ) → j < 8 → ws j ≡ vs j) → Distinct vs → Distinct ws
 unfolding Distinct

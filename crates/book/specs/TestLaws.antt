@@ -8,9 +8,9 @@ use Rattle.book.specs.Layout.{kind_at, members_at, slots_of, usable_at}
 use Rattle.book.specs.Plain.{members_low, proper_at, proper_if, sets_low, slot_apart, slot_low, slots_apart}
 use Rattle.model.specs.Book.{versions}
 use Rattle.model.specs.Rules.{r}
-use Rattle.sets.specs.TestLaws.{<?_in, <?_out, ==-in, ==-no, ==-not, ==-out, and-false, and-true, fails, imp_in, not_in, not_out}
+use Rattle.sets.specs.TestLaws.{<?_in, <?_out, =?-in, =?-no, =?-not, =?-out, and-false, and-true, fails, imp_in, not_in, not_out}
 use Rattle.sets.specs.TestLaws.{≤?_in, ≤?_out}
-use Rattle.sets.specs.Tests.{◌<?◌, ◌==◌, ◌⇒◌, ◌≤?◌, all}
+use Rattle.sets.specs.Tests.{◌<?◌, ◌=?◌, ◌⇒◌, ◌≤?◌, all}
 
 module _ (n : List ℕ) (c j : ℕ) where
   pub low_is : {x : ℕ} → x ≡ slots_of n c j → leb x 64 ≡ slot_low n c j
@@ -24,11 +24,11 @@ module _ (n : List ℕ) (c j : ℕ) where
 
     pub apart_other : (x ≡ y → ⊥) → true ≡ slots_apart n c j k
     unfolding slots_apart
-    apart_other ne = sym (imp_in _ _ (λ t. imp_in _ _ (λ q. absurd (ne (ex ∙ ==-out _ _ q ∙ sym ey)))))
+    apart_other ne = sym (imp_in _ _ (λ t. imp_in _ _ (λ q. absurd (ne (ex ∙ =?-out _ _ q ∙ sym ey)))))
 
     pub apart_is : x < versions → x ≡ y → eqb j k ≡ slots_apart n c j k
-    unfolding slots_apart ◌⇒◌ ◌==◌
-    apart_is l e = sym (ap₂ (λ (s t : Bool). s ⇒ t ⇒ eqb j k) (<?_in (slots_of n c j) versions (omega (arith, l, ex))) (==-in _ _ (sym ex ∙ e ∙ ey)))
+    unfolding slots_apart ◌⇒◌ ◌=?◌
+    apart_is l e = sym (ap₂ (λ (s t : Bool). s ⇒ t ⇒ eqb j k) (<?_in (slots_of n c j) versions (omega (arith, l, ex))) (=?-in _ _ (sym ex ∙ e ∙ ey)))
 
 module _ (s n : List ℕ) (c : ℕ) where
   pub members-free : (j : ℕ) {x : ℕ} → x ≡ slots_of n c j → versions ≤ x → true ≡ members_low s n c j
@@ -60,22 +60,22 @@ module _ (s n : List ℕ) (c : ℕ) where
     unfolding proper_at
     proper-apart l y z = sym (and-true _ _ (≤?_in _ _ l) ∙ and-true _ _ (sym ea ∙ not-false a y) ∙ and-false _ _ (sym eb ∙ not-true b z))
 
-    so_far : kind_at n c ≤ 3 → not a ≡ false → not b ≡ false → proper_at s n c ≡ (kind_at n c == 3 ⇒ sets_low s n c)
+    so_far : kind_at n c ≤ 3 → not a ≡ false → not b ≡ false → proper_at s n c ≡ (kind_at n c =? 3 ⇒ sets_low s n c)
     unfolding proper_at
     so_far l y z = and-true _ _ (≤?_in _ _ l) ∙ and-true _ _ (sym ea ∙ not-false a y) ∙ and-true _ _ (sym eb ∙ not-false b z)
 
     pub proper_system : {r : Bool} → kind_at n c ≤ 3 → not a ≡ false → not b ≡ false → kind_at n c ≡ 3 → r ≡ sets_low s n c → r ≡ proper_at s n c
     unfolding ◌⇒◌
-    proper_system l y z k e = e ∙ sym (so_far l y z ∙ ap (λ (t : Bool). t ⇒ sets_low s n c) (==-in _ _ k))
+    proper_system l y z k e = e ∙ sym (so_far l y z ∙ ap (λ (t : Bool). t ⇒ sets_low s n c) (=?-in _ _ k))
 
     pub proper_other : kind_at n c ≤ 3 → not a ≡ false → not b ≡ false → (kind_at n c ≡ 3 → ⊥) → true ≡ proper_at s n c
     unfolding ◌⇒◌
-    proper_other l y z k = sym (so_far l y z ∙ ap (λ (t : Bool). t ⇒ sets_low s n c) (==-not _ _ k))
+    proper_other l y z k = sym (so_far l y z ∙ ap (λ (t : Bool). t ⇒ sets_low s n c) (=?-not _ _ k))
 
   pub proper_absent : kind_at n c ≡ 0 → true ≡ proper_if s n c
   unfolding proper_if
-  proper_absent e = sym (imp_in _ _ (λ t. absurd (==-no _ _ (not_out _ t) e)))
+  proper_absent e = sym (imp_in _ _ (λ t. absurd (=?-no _ _ (not_out _ t) e)))
 
   pub proper_there : {r : Bool} → (kind_at n c ≡ 0 → ⊥) → r ≡ proper_at s n c → r ≡ proper_if s n c
   unfolding proper_if ◌⇒◌
-  proper_there ne e = e ∙ sym (ap (λ (t : Bool). t ⇒ proper_at s n c) (not_in _ (==-not _ _ ne)))
+  proper_there ne e = e ∙ sym (ap (λ (t : Bool). t ⇒ proper_at s n c) (not_in _ (=?-not _ _ ne)))

@@ -18,7 +18,7 @@ use Rattle.model.specs.Commands.{with_composition, with_version}
 use Rattle.model.specs.Maps.{Map, change, only_if, option_map, put}
 use Rattle.model.specs.Rules.{p}
 use Rattle.sets.specs.TestLaws.{if-true, same?}
-use Rattle.sets.specs.Tests.{if◌then◌else◌}
+use Rattle.sets.specs.Tests.{if?◌then◌else◌}
 use Rattle.model_laws.specs.MapLaws.{put_other, put_same}
 
 -- ---- maps
@@ -80,7 +80,7 @@ module _ (s n s' n' : List ℕ) (c j v : ℕ) (o : Option ℕ) (c< : c < compone
   places = fun_ext (λ u. if-true _ _ _ (specified_same n n' c head.kind ∙ there) ∙ ap (λ (f : ℕ → Option ℕ). option_map (λ j. c * 8 + j) (f u)) slots ∙ at u)
     where
       at : (u : ℕ) → option_map (λ j. c * 8 + j) (put v o (slot (slots_of n c)) u)
-          ≡ put v (option_map (λ j. c * 8 + j) o) (λ u. if specified_at n c then option_map (λ j. c * 8 + j) (slot (slots_of n c) u) else none) u
+          ≡ put v (option_map (λ j. c * 8 + j) o) (λ u. if? specified_at n c then option_map (λ j. c * 8 + j) (slot (slots_of n c) u) else none) u
       at u = elim (same? u v) [
         | inl e ↦ rw e (ap (option_map (λ j. c * 8 + j)) (put_same v o _) ∙ sym (put_same v _ _))
         | inr ne ↦ ap (option_map (λ j. c * 8 + j)) (put_other v o _ u ne) ∙ sym (put_other v _ _ u ne ∙ if-true _ _ _ there)

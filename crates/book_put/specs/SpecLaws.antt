@@ -25,7 +25,7 @@ use Rattle.model.specs.Rules.{p, r}
 use Rattle.sets.specs.Sets.{Set, bit}
 use Rattle.sets.specs.TestLaws.{<?_in, <?_no, <?_out, and-false, and_in, and_no, and_r, bool?, clash, count_strict, fails, iff→≡}
 use Rattle.sets.specs.TestLaws.{or-false, same?}
-use Rattle.sets.specs.Tests.{◌&◌, ◌<?◌, ◌or◌, count, if◌then◌else◌}
+use Rattle.sets.specs.Tests.{◌&◌, ◌<?◌, ◌or◌, count, if?◌then◌else◌}
 use Rattle.model_laws.specs.Alike.{has_version_at}
 use Rattle.model_laws.specs.MapLaws.{is_some_in, put_other, put_same}
 use Rattle.model_laws.specs.Notions.{distinct, here}
@@ -93,7 +93,7 @@ module _ (s n : List ℕ) (c q std : ℕ) (ls : length s ≡ 576) (t : TakesSpec
     | inr z ↦ in_slots (slot_high (slots_of n₁ c) v (<?_no _ _ z))
   ]
     where
-      in_slots : slot (slots_of n₁ c) v ≡ none → (if specified_at n₁ c then option_map (λ j. c * 8 + j) (slot (slots_of n₁ c) v) else none) ≡ none
+      in_slots : slot (slots_of n₁ c) v ≡ none → (if? specified_at n₁ c then option_map (λ j. c * 8 + j) (slot (slots_of n₁ c) v) else none) ≡ none
       in_slots e = if_none _ _ (map-none _ _ e)
 
   no_kind : (k : ℕ) → k ≢ 1 → kind_is n₁ k c ≡ false

@@ -17,7 +17,7 @@ use Rattle.model.specs.Book.{System, components, has_version, versions}
 use Rattle.model.specs.Maps.{Map, is_some, only_if, option_map, put}
 use Rattle.sets.specs.SetLaws.{bit_below, bit_limit}
 use Rattle.sets.specs.Sets.{Set, bit}
-use Rattle.sets.specs.TestLaws.{<?_in, ==-not, ==-same, and_in, any_in, bool?, if-true, same?}
+use Rattle.sets.specs.TestLaws.{<?_in, =?-not, =?-same, and_in, any_in, bool?, if-true, same?}
 use Rattle.model_laws.specs.MapLaws.{is_some_in, option?, option_map-some}
 use Rattle.sets.specs.Sets as sets
 
@@ -137,7 +137,7 @@ module _ (s n ms rows : List ℕ) (c us : ℕ) (t : TakesDefinition s n c) (us< 
   has-slot : (k : ℕ) → k < 8 → slots_of n c k < versions → has_version (specs_of s n) c (slots_of n c k) ≡ true
   unfolding place_of
   has-slot k h lo = has_version_plain s n c (slots_of n c k) ∙ ap is_some (if-true _ _ _ there) ∙ option_map-some _ _
-      ∙ sym (among-all (slots_of n c) (slots_of n c k)) ∙ unfold among_first in and_in _ _ (<?_in _ _ lo) (any_in 8 _ k h (==-same _))
+      ∙ sym (among-all (slots_of n c) (slots_of n c k)) ∙ unfold among_first in and_in _ _ (<?_in _ _ lo) (any_in 8 _ k h (=?-same _))
 
   row₃ : (k : ℕ) → k < 8 → slots_of n c k < versions → composition_at s₃ n₃ (c * 8 + k) ≡ row_of (get_or ms (slots_of n c k) 0) rows (slots_of n c k)
   unfolding composition_at row_of component_set
@@ -170,10 +170,10 @@ module _ (s n ms rows : List ℕ) (c us : ℕ) (t : TakesDefinition s n c) (us< 
   system_put = record {
     is = book_ext (kept_specs s n s₃ n₃ c 3 c< there at₃ kind₃ (omega arith) provides₃ standard₃ slots₃ requires₃)
         (set_modules s n s₃ n₃ c 3 c< there at₃ kind₃ (omega arith) provides₃ standard₃ slots₃ requires₃
-        ∙ ap (λ (o : Option (Map ℕ)). put c o (modules_of n)) (only_no _ _ (==-not 3 2 (omega arith)))
+        ∙ ap (λ (o : Option (Map ℕ)). put c o (modules_of n)) (only_no _ _ (=?-not 3 2 (omega arith)))
         ∙ put_none _ c (no_module s n c (defined_none s n c t.is_undefined).0))
         (set_systems s n s₃ n₃ c 3 c< there at₃ kind₃ (omega arith) provides₃ standard₃ slots₃ requires₃
-        ∙ ap (λ (o : Option System). put c o (systems_of s n)) (only_yes _ _ (==-same 3) ∙ ap some (system_ext uses₃ (fun_ext stored₃))));
+        ∙ ap (λ (o : Option System). put c o (systems_of s n)) (only_yes _ _ (=?-same 3) ∙ ap some (system_ext uses₃ (fun_ext stored₃))));
     is_proper = set-proper s n s₃ n₃ c 3 c< there at₃ kind₃ (omega arith) provides₃ standard₃ slots₃ requires₃ t.is_proper (omega arith)
         (λ e. rw usable₃ us<) (λ e k h lo. rw (members₃ k h lo) (ms< (slots_of n c k) (has-slot k h lo)));
   }

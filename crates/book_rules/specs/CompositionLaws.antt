@@ -14,9 +14,9 @@ use Rattle.model.specs.Rules.{B5_at, B6_at, B7_at, B8_at, B9_at, each_compositio
 use Rattle.book_rules.specs.RuleLaws.{provided_by}
 use Rattle.sets.specs.SetLaws.{bit_ext, bit_zero, meet-disjoint}
 use Rattle.sets.specs.Sets.{Set, bit, disjoint, meet, minus, subset, union, union_below}
-use Rattle.sets.specs.TestLaws.{==-no, ==-not, all_in, all_no, all_out, and-false, and_in, and_l, and_r, and-true, any_in, any_out}
+use Rattle.sets.specs.TestLaws.{=?-no, =?-not, all_in, all_no, all_out, and-false, and_in, and_l, and_r, and-true, any_in, any_out}
 use Rattle.sets.specs.TestLaws.{bool?, clash, fails, iff→≡, imp_in, imp_no, imp_out, not_in, not_no, not_out, same?}
-use Rattle.sets.specs.Tests.{◌&◌, ◌==◌, ◌⇒◌, all, any, if◌then◌else◌, ~◌}
+use Rattle.sets.specs.Tests.{◌&◌, ◌=?◌, ◌⇒◌, all, any, if?◌then◌else◌, ~◌}
 use Rattle.model_laws.specs.Heights.{Sound, needs_system}
 use Rattle.model_laws.specs.MapLaws.{is_some_no, is_some_out}
 
@@ -122,13 +122,13 @@ module _ (S : Specs) (Y : Systems) (s v : ℕ) where
         let o = any_out m _ (sym (at ex q.0) ∙ z.0) in
         sym (fails _ (λ b.
         let first = imp_out _ _ (all_out 32 _ b o.0 (omega (arith, o.1))) (and_l _ _ o.2) in
-        let second = imp_out _ _ (imp_out _ _ (all_out 32 _ first m m<) tm) (not_in _ (==-not o.0 m (omega (arith, o.1)))) in
+        let second = imp_out _ _ (imp_out _ _ (all_out 32 _ first m m<) tm) (not_in _ (=?-not o.0 m (omega (arith, o.1)))) in
         clash (sym (at ey q.0) ∙ not_no _ z.1) (not_out _ (imp_out _ _ (all_out 64 _ second q.0 q.1) (and_r _ _ o.2)))))
 
   pub apart_end : (m : ℕ) → 32 ≤ m → apart_below S Y s v m → true ≡ B6_at S Y s v
   unfolding apart_below B6_at disjoint
   apart_end m h a = sym (all_in 32 _ (λ c lc. imp_in _ _ (λ tc. all_in 32 _ (λ d ld. imp_in _ _ (λ td. imp_in _ _ (λ ne. all_in 64 _ (λ f lf.
-      imp_in _ _ (λ qc. not_in _ (fails _ (λ qd. a c d f (omega arith) (omega arith) tc td (==-no _ _ (not_out _ ne)) qc qd))))))))))
+      imp_in _ _ (λ qc. not_in _ (fails _ (λ qd. a c d f (omega arith) (omega arith) tc td (=?-no _ _ (not_out _ ne)) qc qd))))))))))
 
 -- ---- B7
 
@@ -173,7 +173,7 @@ b9_is S Y s v x y z w ok t ex ey ez ew eq = eq ∙ ap₂ (disjoint 64) (ez ∙ a
 -- the rules by their numbers
 unfoldable pub rule_at : ℕ → Specs → Systems → ℕ → ℕ → Bool
 rule_at k S Y s v =
-    if k == 5 then B5_at S Y s v else if k == 6 then B6_at S Y s v else if k == 7 then B7_at S Y s v else if k == 8 then B8_at S Y s v else B9_at S Y s v
+    if? k =? 5 then B5_at S Y s v else if? k =? 6 then B6_at S Y s v else if? k =? 7 then B7_at S Y s v else if? k =? 8 then B8_at S Y s v else B9_at S Y s v
 
 unfoldable pub if_composed : Systems → (ℕ → ℕ → Bool) → ℕ → ℕ → Bool
 if_composed Y test s v = composed Y s v ⇒ test s v

@@ -16,9 +16,9 @@ use Rattle.book_rules.specs.CompositionLaws.{if_composed, of_system, rule_at}
 use Rattle.book_rules.specs.RuleLaws.{composed_version, count_ok, if_specified, if_system, unspecified}
 use Rattle.book_rules.specs.Test.{passes}
 use Rattle.sets.specs.Sets.{Set, bit}
-use Rattle.sets.specs.TestLaws.{<?_in, ==-in, ==-not, ==-out, all_in, all_out, and-false, and_in, and_l, and_r, and-true, bool?}
+use Rattle.sets.specs.TestLaws.{<?_in, =?-in, =?-not, =?-out, all_in, all_out, and-false, and_in, and_l, and_r, and-true, bool?}
 use Rattle.sets.specs.TestLaws.{clash, if-false, if-true, imp_in, not_in, not_out}
-use Rattle.sets.specs.Tests.{◌&◌, ◌==◌, ◌⇒◌, all, if◌then◌else◌, ~◌}
+use Rattle.sets.specs.Tests.{◌&◌, ◌=?◌, ◌⇒◌, all, if?◌then◌else◌, ~◌}
 use Rattle.model_laws.specs.Frame.{composed_system}
 use Rattle.model_laws.specs.Heights.{Sound}
 use Rattle.model_laws.specs.Parts.{rules→sound}
@@ -61,13 +61,13 @@ module _ (s n : List ℕ) where
       none c l = sym (specified_plain s n c) ∙ unfold unspecified in not_out _ (all_out _ _ t c l)
 
       zero_kind : (c : ℕ) → c < 32 → kind_at n c ≡ 0
-      zero_kind c l = elim (bool? (kind_at n c == 0)) [
-        | inl y ↦ ==-out _ _ y
+      zero_kind c l = elim (bool? (kind_at n c =? 0)) [
+        | inl y ↦ =?-out _ _ y
         | inr z ↦ clash {b = specified_at n c} (unfold specified_at in and_in _ _ (<?_in _ _ l) (not_in _ z)) (none c l)
       ]
 
       proper-none : proper s n ≡ true
-      proper-none = unfold proper in all_in _ _ (λ c l. unfold proper_if in imp_in _ _ (λ y. clash (==-in _ _ (zero_kind c l)) (not_out _ y)))
+      proper-none = unfold proper in all_in _ _ (λ c l. unfold proper_if in imp_in _ _ (λ y. clash (=?-in _ _ (zero_kind c l)) (not_out _ y)))
 
   -- and so does every Book that means the empty book
   pub empty_book_passes : plain_of s n ≡ empty → passes s n ≡ true
@@ -101,46 +101,46 @@ B3_is S Y = refl
 -- the rule k of every composition, by its name
 module _ (S : Specs) (Y : Systems) where
   pub B5_is : each_composition Y (rule_at 5 S Y) ≡ B5 S Y
-  unfolding B5 each_composition rule_at if◌then◌else◌ ◌==◌
+  unfolding B5 each_composition rule_at if?◌then◌else◌ ◌=?◌
   B5_is = refl
 
   pub B6_is : each_composition Y (rule_at 6 S Y) ≡ B6 S Y
-  unfolding B6 each_composition rule_at if◌then◌else◌ ◌==◌
+  unfolding B6 each_composition rule_at if?◌then◌else◌ ◌=?◌
   B6_is = refl
 
   pub B7_is : each_composition Y (rule_at 7 S Y) ≡ B7 S Y
-  unfolding B7 each_composition rule_at if◌then◌else◌ ◌==◌
+  unfolding B7 each_composition rule_at if?◌then◌else◌ ◌=?◌
   B7_is = refl
 
   pub B8_is : each_composition Y (rule_at 8 S Y) ≡ B8 S Y
-  unfolding B8 each_composition rule_at if◌then◌else◌ ◌==◌
+  unfolding B8 each_composition rule_at if?◌then◌else◌ ◌=?◌
   B8_is = refl
 
   pub B9_is : each_composition Y (rule_at 9 S Y) ≡ B9 S Y
-  unfolding B9 each_composition rule_at if◌then◌else◌ ◌==◌
+  unfolding B9 each_composition rule_at if?◌then◌else◌ ◌=?◌
   B9_is = refl
 
   module _ (k s v : ℕ) {r : Bool} where
     pub rule_5 : k ≡ 5 → r ≡ B5_at S Y s v → r ≡ rule_at k S Y s v
     unfolding rule_at
-    rule_5 e q = q ∙ sym (if-true _ _ _ (==-in k 5 e))
+    rule_5 e q = q ∙ sym (if-true _ _ _ (=?-in k 5 e))
 
     pub rule_6 : (k ≡ 5 → ⊥) → k ≡ 6 → r ≡ B6_at S Y s v → r ≡ rule_at k S Y s v
     unfolding rule_at
-    rule_6 a e q = q ∙ sym (if-false _ _ _ (==-not k 5 a) ∙ if-true _ _ _ (==-in k 6 e))
+    rule_6 a e q = q ∙ sym (if-false _ _ _ (=?-not k 5 a) ∙ if-true _ _ _ (=?-in k 6 e))
 
     pub rule_7 : (k ≡ 5 → ⊥) → (k ≡ 6 → ⊥) → k ≡ 7 → r ≡ B7_at S Y s v → r ≡ rule_at k S Y s v
     unfolding rule_at
-    rule_7 a b e q = q ∙ sym (if-false _ _ _ (==-not k 5 a) ∙ if-false _ _ _ (==-not k 6 b) ∙ if-true _ _ _ (==-in k 7 e))
+    rule_7 a b e q = q ∙ sym (if-false _ _ _ (=?-not k 5 a) ∙ if-false _ _ _ (=?-not k 6 b) ∙ if-true _ _ _ (=?-in k 7 e))
 
     pub rule_8 : (k ≡ 5 → ⊥) → (k ≡ 6 → ⊥) → (k ≡ 7 → ⊥) → k ≡ 8 → r ≡ B8_at S Y s v → r ≡ rule_at k S Y s v
     unfolding rule_at
-    rule_8 a b c e q = q ∙ sym (if-false _ _ _ (==-not k 5 a) ∙ if-false _ _ _ (==-not k 6 b) ∙ if-false _ _ _ (==-not k 7 c) ∙ if-true _ _ _ (==-in k 8 e))
+    rule_8 a b c e q = q ∙ sym (if-false _ _ _ (=?-not k 5 a) ∙ if-false _ _ _ (=?-not k 6 b) ∙ if-false _ _ _ (=?-not k 7 c) ∙ if-true _ _ _ (=?-in k 8 e))
 
     pub rule_9 : (k ≡ 5 → ⊥) → (k ≡ 6 → ⊥) → (k ≡ 7 → ⊥) → (k ≡ 8 → ⊥) → r ≡ B9_at S Y s v → r ≡ rule_at k S Y s v
     unfolding rule_at
     rule_9 a b c d q =
-        q ∙ sym (if-false _ _ _ (==-not k 5 a) ∙ if-false _ _ _ (==-not k 6 b) ∙ if-false _ _ _ (==-not k 7 c) ∙ if-false _ _ _ (==-not k 8 d))
+        q ∙ sym (if-false _ _ _ (=?-not k 5 a) ∙ if-false _ _ _ (=?-not k 6 b) ∙ if-false _ _ _ (=?-not k 7 c) ∙ if-false _ _ _ (=?-not k 8 d))
 
 -- a composition that is there, and one that is not
 module _ (s n : List ℕ) (test : ℕ → ℕ → Bool) (c v x : ℕ) (y : is_system (systems_of s n) c ≡ true) (ex : bit x ≡ has_version (specs_of s n) c)

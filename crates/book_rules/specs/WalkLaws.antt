@@ -17,8 +17,8 @@ use Rattle.book_rules.specs.Table.{Kept, member_needs}
 use Rattle.sets.specs.LoopLaws.{union_end, union_turn}
 use Rattle.sets.specs.SetLaws.{bit_zero}
 use Rattle.sets.specs.Sets.{Set, bit, union, union_below, with}
-use Rattle.sets.specs.TestLaws.{==-out, any_out, clash, fails, or-false, or_out, same?}
-use Rattle.sets.specs.Tests.{◌==◌, any}
+use Rattle.sets.specs.TestLaws.{=?-out, any_out, clash, fails, or-false, or_out, same?}
+use Rattle.sets.specs.Tests.{◌=?◌, any}
 use Rattle.model_laws.specs.Heights.{Sound, falls, needs_other, needs_system}
 use Rattle.model_laws.specs.MapLaws.{is_some_no, is_some_out}
 use Rattle.model_laws.specs.Notions.{systems_below}
@@ -93,10 +93,10 @@ module _ (S : Specs) (Y : Systems) where
     old : (d u : ℕ) → d < 32 → d * 64 + u ≢ c * 64 + v → bit (get_or (set t₁ i x) d 0) u ≡ true → bit (get_or t d 0) u ≡ true
     unfolding with
     old d u hd ne e = elim (same? d c) [
-      | inl q ↦ elim (or_out (u == v) (bit (get_or t c 0) u)
+      | inl q ↦ elim (or_out (u =? v) (bit (get_or t c 0) u)
           (sym (ap (λ (a : Set). a u) hw) ∙ sym (ap (λ (y : ℕ). bit y u) (get_or-set_same t c w 0 (omega (arith, k.size))))
           ∙ ap (λ (y : ℕ). bit (get_or t₁ y 0) u) (sym q) ∙ sym (ap (λ (y : ℕ). bit y u) (get_or-set_other t₁ i d x 0 (omega arith))) ∙ e)) [
-            | inl z ↦ absurd (ne (omega (arith, q, ==-out u v z)))
+            | inl z ↦ absurd (ne (omega (arith, q, =?-out u v z)))
             | inr z ↦ rw q z
           ]
       | inr n ↦ sym (ap (λ (y : ℕ). bit y u) (get_or-set_other t₁ i d x 0 (omega arith) ∙ get_or-set_other t c d w 0 n)) ∙ e

@@ -11,7 +11,7 @@ use Rattle.write_bytes.specs.Written.{starting_with, wrote}
 use Rattle.write_bytes.specs.declared.Wrote.{Wrote}
 use Rattle.names.specs.Stored.{tables_of}
 use Rattle.book_rules.specs.Test as test
-use Rattle.sets.specs.TestLaws.{==-in, ==-not, and-false, and_in, and_no, bool?, if-false, if-true}
+use Rattle.sets.specs.TestLaws.{=?-in, =?-not, and-false, and_in, and_no, bool?, if-false, if-true}
 use Rattle.sets.specs.Tests.{◌≤?◌}
 use Rattle.text.specs.Bytes.{Text}
 use Rattle.text.specs.Handed.{names_hold}
@@ -27,8 +27,8 @@ module _ (s n c v f i old : List ℕ) where
   unfolding text_len slice_with
   refuse a z e = record {
     answer = sym e;
-    len = sym (if-false _ _ _ (==-not _ 0 (λ y. z (sym e ∙ y))));
-    slice = sym (if-false _ _ _ (==-not _ 0 (λ y. z (sym e ∙ y))));
+    len = sym (if-false _ _ _ (=?-not _ 0 (λ y. z (sym e ∙ y))));
+    slice = sym (if-false _ _ _ (=?-not _ 0 (λ y. z (sym e ∙ y))));
   }
 
   refuse_25 : passes_named s n c v f i ≡ false → TextCall s n c v f i old (record { answer = 25; len = 0 }) old
@@ -71,6 +71,6 @@ module _ (s n c v f i old : List ℕ) where
             let a : text_answer s n c v f i old ≡ 0 = if-true _ _ _ both ∙ if-true _ _ _ t in
             record {
               answer = sym a;
-              len = ap (λ (x : Wrote). x.len) (ew ∙ if-true _ _ _ t) ∙ sym (if-true _ _ _ (==-in _ 0 a));
-              slice = en ∙ if-true _ _ _ t ∙ sym (if-true _ _ _ (==-in _ 0 a));
+              len = ap (λ (x : Wrote). x.len) (ew ∙ if-true _ _ _ t) ∙ sym (if-true _ _ _ (=?-in _ 0 a));
+              slice = en ∙ if-true _ _ _ t ∙ sym (if-true _ _ _ (=?-in _ 0 a));
             }

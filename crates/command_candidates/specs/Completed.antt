@@ -4,7 +4,7 @@ use Rattle.model.specs.Book.{Specs, standard}
 use Rattle.model.specs.Maps.{or_else}
 use Rattle.command_lists.specs.Views.{mark_said}
 use Rattle.sets.specs.Sets.{Set, below, bit}
-use Rattle.sets.specs.Tests.{if◌then◌else◌}
+use Rattle.sets.specs.Tests.{if?◌then◌else◌}
 
 -- "A composition may leave a member's version out; the member's standard version is stored."
 unfoldable pub version_stored : Specs → ℕ → ℕ → ℕ
@@ -18,7 +18,7 @@ row_completed S rows v (suc k) = let rest = row_completed S rows v k in set rest
 -- the rows of the versions below k that are listed completed
 unfoldable pub rows_completed : Specs → List ℕ → Set → ℕ → List ℕ
 rows_completed S rows listed zero = rows
-rows_completed S rows listed (suc k) = let rest = rows_completed S rows listed k in if listed k then row_completed S rest k 32 else rest
+rows_completed S rows listed (suc k) = let rest = rows_completed S rows listed k in if? listed k then row_completed S rest k 32 else rest
 
 -- at each version below k, of the members at it those below 32
 pub record LowMembers (members low : List ℕ) (k : ℕ) : Type 0 where

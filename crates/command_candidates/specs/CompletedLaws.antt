@@ -18,7 +18,7 @@ use Rattle.book_rules.specs.Test.{passes}
 use Rattle.book_rules.specs.TestLaws.{passes_plain}
 use Rattle.sets.specs.Sets.{Set, bit}
 use Rattle.sets.specs.TestLaws.{<?_in, bool?, fails, <?_out, if-false, if-true, same?}
-use Rattle.sets.specs.Tests.{if◌then◌else◌}
+use Rattle.sets.specs.Tests.{if?◌then◌else◌}
 use Rattle.model_laws.specs.Good.{passes→good}
 use Rattle.model_laws.specs.KeepSystems.{standard_lim}
 
@@ -126,7 +126,7 @@ module _ (S : Specs) (rows : List ℕ) (vs : Set) (len : length rows ≡ 2048) w
     ]
   ]
     where
-      here : vs k ≡ true → get_or (if vs k then row_completed S (rows_completed S rows vs k) k 32 else rows_completed S rows vs k) (k * 32 + m) 0
+      here : vs k ≡ true → get_or (if? vs k then row_completed S (rows_completed S rows vs k) k 32 else rows_completed S rows vs k) (k * 32 + m) 0
           ≡ version_stored S m (get_or rows (k * 32 + m) 0)
       here y =
           ap (λ (x : List ℕ). get_or x (k * 32 + m) 0) (if-true _ _ _ y)

@@ -10,7 +10,7 @@ use Rattle.model.specs.Book.{Systems, is_member, member, usable, versions}
 use Rattle.model.specs.Maps.{has}
 use Rattle.sets.specs.Sets.{Set, bit}
 use Rattle.sets.specs.TestLaws.{not_in}
-use Rattle.sets.specs.Tests.{◌==◌, all, ~◌}
+use Rattle.sets.specs.Tests.{◌=?◌, all, ~◌}
 use Rattle.model_laws.specs.MapLaws.{is_some_no}
 
 -- question 18: c is not usable in s
@@ -23,7 +23,7 @@ not_usable_is Y s c u e q = ap not (q ∙ ap (λ (z : Set). z c) e)
 
 -- question 18: the version w of s does not hold the pair c.v
 unfoldable pub not_held_at : Systems → ℕ → ℕ → ℕ → ℕ → Bool
-not_held_at Y c v s w = ~ has (member Y s w c) (λ x. x == v)
+not_held_at Y c v s w = ~ has (member Y s w c) (λ x. x =? v)
 
 unfoldable pub not_held_in : Systems → ℕ → ℕ → ℕ → Bool
 not_held_in Y c v s = all versions (not_held_at Y c v s)
@@ -32,10 +32,10 @@ module _ (Y : Systems) (c v s w : ℕ) where
   pub no_member : (u : ℕ) {r : Bool} → bit u ≡ is_member Y s w → r ≡ bit u c → not r ≡ true → true ≡ not_held_at Y c v s w
   unfolding not_held_at is_member
   no_member u {r} e q z =
-      sym (not_in _ (ap (λ (o : Option ℕ). has o (λ x. x == v)) (is_some_no _ (sym (ap (λ (f : Set). f c) e) ∙ sym q ∙ not-true r z)) ∙ (unfold has in refl)))
+      sym (not_in _ (ap (λ (o : Option ℕ). has o (λ x. x =? v)) (is_some_no _ (sym (ap (λ (f : Set). f c) e) ∙ sym q ∙ not-true r z)) ∙ (unfold has in refl)))
 
   pub other_version : (x : ℕ) {r : Bool} → member Y s w c ≡ some x → r ≡ not (eqb x v) → r ≡ not_held_at Y c v s w
-  unfolding not_held_at has ◌==◌ ~◌
+  unfolding not_held_at has ◌=?◌ ~◌
   other_version x e q = q ∙ sym (ap (λ (o : Option ℕ). not (has o (λ y. eqb y v))) e)
 
   pub is_member_lem : (u : ℕ) {r : Bool} → bit u ≡ is_member Y s w → r ≡ bit u c → not r ≡ false → is_member Y s w c ≡ true

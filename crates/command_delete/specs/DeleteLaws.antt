@@ -10,8 +10,8 @@ use Rattle.model.specs.Limits.{Passes}
 use Rattle.model.specs.PlainBook.{answer}
 use Rattle.model.specs.Questions.{Question, first_no, held_by_none, in_limits, questions, usable_in_none}
 use Rattle.model.specs.Rules.{B4, B5_to_B9, p}
-use Rattle.sets.specs.TestLaws.{<?_in, ==-in, ==-not, and-false, and_in, and-true, not_in}
-use Rattle.sets.specs.Tests.{◌&◌, ◌<?◌, ◌==◌, ~◌}
+use Rattle.sets.specs.TestLaws.{<?_in, =?-in, =?-not, and-false, and_in, and-true, not_in}
+use Rattle.sets.specs.Tests.{◌&◌, ◌<?◌, ◌=?◌, ~◌}
 use Rattle.model_laws.specs.Good.{passes→good}
 use Rattle.model_laws.specs.KeepSystems.{less_B4}
 
@@ -80,7 +80,7 @@ del_sys_B4 b b' c p e = subst (λ (x : Book). B4 x.systems ≡ true) (sym e) (le
 -- DEL-MODVAR and DEL-SYSVAR: 1, m, 10, 15, 18, where t answers the question m
 unfoldable pub version_out : Book → ℕ → ℕ → ℕ → Bool → List Question
 version_out b c v m t =
-    (1, c <? 32 & v <? 64) ∷ (m, t) ∷ (10, has_version b.specs c v) ∷ (15, ~ (v == standard b.specs c)) ∷ (18, held_by_none b c v) ∷ []
+    (1, c <? 32 & v <? 64) ∷ (m, t) ∷ (10, has_version b.specs c v) ∷ (15, ~ (v =? standard b.specs c)) ∷ (18, held_by_none b c v) ∷ []
 
 pub modvar_out : (b : Book) (c v : ℕ) → answer b (DEL-MODVAR c v) ≡ first_no (version_out b c v 6 (is_module b.modules c))
 unfolding answer questions in_limits version_out
@@ -113,18 +113,18 @@ module _ (b : Book) (c v m : ℕ) (t : Bool) where
             ∙ no_at 10 _ _ (sym eh ∙ not-true h z)
 
         module _ (yh : not h ≡ false) (x : ℕ) (es : x ≡ standard b.specs c) where
-          past_10 : first_no (version_out b c v m t) ≡ first_no ((15, ~ (v == standard b.specs c)) ∷ (18, held_by_none b c v) ∷ [])
+          past_10 : first_no (version_out b c v m t) ≡ first_no ((15, ~ (v =? standard b.specs c)) ∷ (18, held_by_none b c v) ∷ [])
           unfolding version_out
           past_10 =
               yes_at 1 _ _ (and_in _ _ (<?_in _ _ c<) (<?_in _ _ v<)) ∙ yes_at m _ _ (sym e ∙ not-false r y)
               ∙ yes_at 10 _ _ (sym eh ∙ not-false h yh)
 
           pub out_15 : x ≡ v → first_no (version_out b c v m t) ≡ 15
-          out_15 z = past_10 ∙ no_at 15 _ _ (not_yes _ (==-in _ _ (sym z ∙ es)))
+          out_15 z = past_10 ∙ no_at 15 _ _ (not_yes _ (=?-in _ _ (sym z ∙ es)))
 
           module _ (other : x ≢ v) {u : Bool} (eu : u ≡ held_by_none b c v) where
             past_15 : first_no (version_out b c v m t) ≡ first_no ((18, held_by_none b c v) ∷ [])
-            past_15 = past_10 ∙ yes_at 15 _ _ (not_in _ (==-not _ _ (λ q. other (es ∙ sym q))))
+            past_15 = past_10 ∙ yes_at 15 _ _ (not_in _ (=?-not _ _ (λ q. other (es ∙ sym q))))
 
             pub out_18 : not u ≡ true → first_no (version_out b c v m t) ≡ 18
             out_18 z = past_15 ∙ no_at 18 _ _ (sym eu ∙ not-true u z)

@@ -19,16 +19,16 @@ use Rattle.command_lists.specs.Gathered.{Gathered, gather, listed, nothing}
 use Rattle.command_lists.specs.GatheredLaws.{entry_below, gathered_empty, gathered_given, gathered_large, gathered_listed, gathered_twice}
 use Rattle.command_lists.specs.Said.{alone, always, compositions_from, compositions_of, is_implementation, is_version_or_none, itself, members_of, members_once, numbers_of, sets_of, usable_of}
 use Rattle.sets.specs.Sets.{Set, disjoint, subset}
-use Rattle.sets.specs.TestLaws.{<?_out, ==-not, ==-same, all_cong, all_in, all_out, and_in, and_l, and_r, and_swap, any_cong, any_in, any_out, clash, count_none, count_strict}
+use Rattle.sets.specs.TestLaws.{<?_out, =?-not, =?-same, all_cong, all_in, all_out, and_in, and_l, and_r, and_swap, any_cong, any_in, any_out, clash, count_none, count_strict}
 use Rattle.sets.specs.TestLaws.{fails, if-false, if-true, iff→≡, imp_in, imp_out, not_in, not_out, or_l, or_r}
-use Rattle.sets.specs.Tests.{◌&◌, ◌<?◌, ◌==◌, ◌or◌, ◌⇔◌, ◌≤?◌, all, any, count, if◌then◌else◌, ~◌}
+use Rattle.sets.specs.Tests.{◌&◌, ◌<?◌, ◌=?◌, ◌or◌, ◌⇔◌, ◌≤?◌, all, any, count, if?◌then◌else◌, ~◌}
 use Rattle.model_laws.specs.Accepted.{below_elem, length-firsts}
 use Rattle.model_laws.specs.ListLaws.{beside_elem, beside_second, count_one_more, every-elem, every_listed}
 use Rattle.model_laws.specs.MapLaws.{if_there_cong, if_there_in, if_there_out, is_some_in}
 
 -- two lists of questions that part only where an earlier answer is no
 first_same : (n : ℕ) (a b : Bool) (xs ys : List Question) → a ≡ b → (a ≡ true → first_no xs ≡ first_no ys) → first_no ((n, a) ∷ xs) ≡ first_no ((n, b) ∷ ys)
-unfolding first_no if◌then◌else◌
+unfolding first_no if?◌then◌else◌
 first_same n true b xs ys e h = rw (← e) (h refl)
 first_same n false b xs ys e h = rw (← e) refl
 
@@ -60,7 +60,7 @@ count-once : (n : ℕ) (xs : List ℕ) → each_below n xs ≡ true → once xs 
 unfolding elem once each_below every
 count-once n [] b o = count_none n
 count-once n (x ∷ xs) b o =
-    let more = count_strict n (λ i. elem i xs) (λ i. (i == x) or elem i xs) (λ i l t. or_r _ _ t) x (<?_out _ _ (and_l _ _ b)) (not_out _ (and_l _ _ o)) (or_l _ _ (==-same x)) in
+    let more = count_strict n (λ i. elem i xs) (λ i. (i =? x) or elem i xs) (λ i l t. or_r _ _ t) x (<?_out _ _ (and_l _ _ b)) (not_out _ (and_l _ _ o)) (or_l _ _ (=?-same x)) in
     let one = count_one_more n x (λ i. elem i xs) in
     let rest = count-once n xs (and_r _ _ b) (and_r _ _ o) in
     omega arith
@@ -68,7 +68,7 @@ count-once n (x ∷ xs) b o =
 any-firsts : {A : Type 0} (n : ℕ) (xs : List (ℕ × A)) → each_below n (firsts xs) ≡ true → non_empty xs ≡ any n (λ i. elem i (firsts xs))
 unfolding non_empty firsts elem each_below every
 any-firsts n [] b = sym (fails _ (λ t. clash (any_out n (λ i. false) t).2 refl))
-any-firsts n (x ∷ xs) b = sym (any_in n _ x.0 (<?_out _ _ (and_l _ _ b)) (or_l _ _ (==-same x.0)))
+any-firsts n (x ∷ xs) b = sym (any_in n _ x.0 (<?_out _ _ (and_l _ _ b)) (or_l _ _ (=?-same x.0)))
 
 -- what stands beside the numbers of a list in which none stands twice
 beside_each : {A : Type 0} (t : A → Bool) (xs : List (ℕ × A)) → once (firsts xs) ≡ true
@@ -76,8 +76,8 @@ beside_each : {A : Type 0} (t : A → Bool) (xs : List (ℕ × A)) → once (fir
 unfolding once firsts seconds every beside
 beside_each t [] o h = refl
 beside_each t (x ∷ xs) o h =
-    and_in _ _ (h x.0 x.1 (if-true _ _ _ (==-same x.0)))
-    (beside_each t xs (and_r _ _ o) (λ v a e. h v a (if-false _ _ _ (==-not _ _ (λ q.
+    and_in _ _ (h x.0 x.1 (if-true _ _ _ (=?-same x.0)))
+    (beside_each t xs (and_r _ _ o) (λ v a e. h v a (if-false _ _ _ (=?-not _ _ (λ q.
     clash (sym (ap (λ (k : ℕ). elem k (firsts xs)) q) ∙ sym (beside_elem xs v) ∙ is_some_in _ e) (not_out _ (and_l _ _ o)))) ∙ e)))
 
 each_beside : {A : Type 0} (n : ℕ) (t : A → Bool) (xs : List (ℕ × A)) → each_below n (firsts xs) ≡ true → once (firsts xs) ≡ true

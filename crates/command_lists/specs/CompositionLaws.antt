@@ -18,8 +18,8 @@ use Rattle.command_lists.specs.ViewLaws.{beside_large, entry_new, entry_old, hel
 use Rattle.command_lists.specs.Views.{composition_at, composition_view, compositions_view, held, mark_at, mark_said, row_written}
 use Rattle.sets.specs.SetLaws.{bit_ext, bit_zero}
 use Rattle.sets.specs.Sets.{Set, below, bit, with}
-use Rattle.sets.specs.TestLaws.{<?_in, <?_out, ==-in, ==-out, ==-same, and_absorb, and_l, and_r, and_swap, bool?, clash, fails, if-false, if-true, iff→≡, not_in, not_no, not_out, same?}
-use Rattle.sets.specs.Tests.{◌&◌, ◌==◌, ◌or◌, ~◌}
+use Rattle.sets.specs.TestLaws.{<?_in, <?_out, =?-in, =?-out, =?-same, and_absorb, and_l, and_r, and_swap, bool?, clash, fails, if-false, if-true, iff→≡, not_in, not_no, not_out, same?}
+use Rattle.sets.specs.Tests.{◌&◌, ◌=?◌, ◌or◌, ~◌}
 use Rattle.command_lists.specs.declared.Composition.{Composition}
 use Rattle.command_lists.specs.declared.Compositions.{Compositions}
 
@@ -85,8 +85,8 @@ map-itself (some x) = refl
 beside_member : (ms : Members) (m : ℕ) → every member_below ms ≡ true → is_some (beside ms m) ≡ true → m < 32
 unfolding every beside member_below
 beside_member [] m t s = clash s (unfold is_some in refl)
-beside_member (x ∷ ms) m t s = elim (bool? (m == x.0)) [
-  | inl e ↦ rw (==-out _ _ e) (<?_out _ _ (and_l _ _ (and_l _ _ t)))
+beside_member (x ∷ ms) m t s = elim (bool? (m =? x.0)) [
+  | inl e ↦ rw (=?-out _ _ e) (<?_out _ _ (and_l _ _ (and_l _ _ t)))
   | inr e ↦ beside_member ms m (and_r _ _ t) (sym (ap is_some (if-false _ _ _ e)) ∙ s)
 ]
 
@@ -98,7 +98,7 @@ some-non_empty (x ∷ ms) m s = refl
 non_empty-some : (ms : Members) → non_empty ms ≡ true → (m : ℕ) × (is_some (beside ms m) ≡ true)
 unfolding non_empty beside
 non_empty-some [] t = clash t refl
-non_empty-some (x ∷ ms) t = (x.0, ap is_some (if-true _ _ _ (==-same x.0)) ∙ (unfold is_some in refl))
+non_empty-some (x ∷ ms) t = (x.0, ap is_some (if-true _ _ _ (=?-same x.0)) ∙ (unfold is_some in refl))
 
 module _ (k : Composition) (ms : Members) (e : composition_view k ≡ members_of ms) where
   pub large_is : k.large ≡ (~ every member_below ms)
@@ -126,11 +126,11 @@ module _ (k : Composition) (ms : Members) (e : composition_view k ≡ members_of
         ∙ ap (λ (z : Bool). ~ (once (firsts ms) & z)) (every-always (seconds ms)) ∙ ap (λ (z : Bool). ~ z) (and_yes _)
 
     pub empty_is : k.members < 2 ^ 64 → eqb k.members 0 ≡ (~ non_empty ms)
-    unfolding ◌==◌
+    unfolding ◌=?◌
     empty_is h = iff→≡ _ _
         (λ t. not_in _ (fails _ (λ s. (let z = non_empty-some ms s in
-        clash (member_is z.0 ∙ z.1) (ap (λ (x : ℕ). bit x z.0) (==-out k.members 0 t) ∙ bit_zero z.0)))))
-        (λ t. ==-in k.members 0 (bit_ext 64 k.members 0 h (pow_pos 64) (λ f l.
+        clash (member_is z.0 ∙ z.1) (ap (λ (x : ℕ). bit x z.0) (=?-out k.members 0 t) ∙ bit_zero z.0)))))
+        (λ t. =?-in k.members 0 (bit_ext 64 k.members 0 h (pow_pos 64) (λ f l.
         fails _ (λ b. clash (some-non_empty ms f (sym (member_is f) ∙ b)) (not_out _ t)) ∙ sym (bit_zero f))))
 
 -- ---- a composition put in

@@ -5,7 +5,7 @@ use Rattle.std.specs.Prelude.{Bool, false, true, List, [], ◌∷◌, ℕ}
 use Rattle.std.proofs.Math.Option.{none}
 use Rattle.model.specs.Maps.{Map, else_try, is_some, only_if}
 use Rattle.sets.specs.Sets.{Set}
-use Rattle.sets.specs.Tests.{◌&◌, ◌<?◌, ◌==◌, ◌or◌, if◌then◌else◌, ~◌}
+use Rattle.sets.specs.Tests.{◌&◌, ◌<?◌, ◌=?◌, ◌or◌, if?◌then◌else◌, ~◌}
 
 pub record Gathered (B : Type 0) : Type 0 where
   -- a number, or what stands beside it, is not below its limit
@@ -31,11 +31,11 @@ module _ {A B : Type 0} (n : ℕ) (good full single : A → Bool) (what : A → 
   -- one entry more
   unfoldable pub step : Gathered B → ℕ × A → Gathered B
   step g x =
-      if x.0 <? n & good x.1 then record {
+      if? x.0 <? n & good x.1 then record {
         large = g.large;
         empty = g.empty or ~ full x.1;
         twice = g.twice or (listed g x.0 or ~ single x.1);
-        given = λ v. else_try (g.given v) (only_if (v == x.0) (what x.1));
+        given = λ v. else_try (g.given v) (only_if (v =? x.0) (what x.1));
       } else record { large = true; empty = g.empty; twice = g.twice; given = g.given }
 
   unfoldable pub gather : Gathered B → List (ℕ × A) → Gathered B

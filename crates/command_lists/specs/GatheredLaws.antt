@@ -10,8 +10,8 @@ use Rattle.model.specs.Lists.{beside, elem, every, firsts, once, seconds}
 use Rattle.model.specs.Maps.{else_try, is_some, only_if, option_map}
 use Rattle.command_lists.specs.Gathered.{Gathered, gather, listed, nothing, step}
 use Rattle.sets.specs.Sets.{Set}
-use Rattle.sets.specs.TestLaws.{==-in, ==-out, and_l, and_r, bool?, if-false, if-true, iff→≡}
-use Rattle.sets.specs.Tests.{◌&◌, ◌<?◌, ◌==◌, ◌or◌, if◌then◌else◌, ~◌}
+use Rattle.sets.specs.TestLaws.{=?-in, =?-out, and_l, and_r, bool?, if-false, if-true, iff→≡}
+use Rattle.sets.specs.Tests.{◌&◌, ◌<?◌, ◌=?◌, ◌or◌, if?◌then◌else◌, ~◌}
 use Rattle.model_laws.specs.ListLaws.{beside_elem}
 use Rattle.model_laws.specs.MapLaws.{option_map-some}
 
@@ -31,7 +31,7 @@ or_nots false false c = refl
 -- none of the numbers is in s, and none stands twice
 unfoldable fresh : Set → List ℕ → Bool
 fresh s [] = true
-fresh s (x ∷ xs) = ~ s x & fresh (λ i. s i or i == x) xs
+fresh s (x ∷ xs) = ~ s x & fresh (λ i. s i or i =? x) xs
 
 twice_turn : (t l a f b : Bool) → ((t or (l or ~ a)) or ~ (f & b)) ≡ (t or ~ ((~ l & f) & (a & b)))
 unfolding ◌or◌ ~◌ ◌&◌
@@ -48,15 +48,15 @@ four false true true d = refl
 four false true false d = refl
 four false false c d = refl
 
-every-apart : (s : Set) (x : ℕ) (xs : List ℕ) → every (λ y. ~ (s y or y == x)) xs ≡ (every (λ y. ~ s y) xs & ~ elem x xs)
+every-apart : (s : Set) (x : ℕ) (xs : List ℕ) → every (λ y. ~ (s y or y =? x)) xs ≡ (every (λ y. ~ s y) xs & ~ elem x xs)
 unfolding every elem
 every-apart s x [] = unfold ◌&◌ ~◌ in refl
 every-apart s x (y ∷ ys) =
-    ap (λ (z : Bool). ~ (s y or y == x) & z) (every-apart s x ys) ∙ four (s y) (y == x) _ _
+    ap (λ (z : Bool). ~ (s y or y =? x) & z) (every-apart s x ys) ∙ four (s y) (y =? x) _ _
     ∙ ap (λ (z : Bool). (~ s y & every (λ k. ~ s k) ys) & ~ (z or elem x ys)) (flip y x)
   where
-    flip : (m n : ℕ) → (m == n) ≡ (n == m)
-    flip m n = iff→≡ _ _ (λ e. ==-in n m (sym (==-out m n e))) (λ e. ==-in m n (sym (==-out n m e)))
+    flip : (m n : ℕ) → (m =? n) ≡ (n =? m)
+    flip m n = iff→≡ _ _ (λ e. =?-in n m (sym (=?-out m n e))) (λ e. =?-in m n (sym (=?-out n m e)))
 
 and_regroup : (a b c d : Bool) → (a & ((b & c) & d)) ≡ ((a & b) & (c & d))
 unfolding ◌&◌
@@ -68,7 +68,7 @@ fresh_once : (s : Set) (xs : List ℕ) → fresh s xs ≡ (every (λ y. ~ s y) x
 unfolding fresh every once
 fresh_once s [] = unfold ◌&◌ in refl
 fresh_once s (x ∷ xs) =
-    ap (λ (z : Bool). ~ s x & z) (fresh_once (λ i. s i or i == x) xs ∙ ap (λ (z : Bool). z & once xs) (every-apart s x xs))
+    ap (λ (z : Bool). ~ s x & z) (fresh_once (λ i. s i or i =? x) xs ∙ ap (λ (z : Bool). z & once xs) (every-apart s x xs))
     ∙ and_regroup _ _ _ _
 
 every-none : (xs : List ℕ) → every (λ y. ~ false) xs ≡ true
@@ -90,8 +90,8 @@ some_or (some x) t y = refl
 
 -- what is given in an entry, after what was given before, before what is given in the rest
 given_turn : {A B : Type 0} (what : A → B) (o : Option B) (t : Bool) (a : A) (r : Option A)
-    → else_try (else_try o (only_if t (what a))) (option_map what r) ≡ else_try o (option_map what (if t then some a else r))
-unfolding else_try only_if option_map if◌then◌else◌
+    → else_try (else_try o (only_if t (what a))) (option_map what r) ≡ else_try o (option_map what (if? t then some a else r))
+unfolding else_try only_if option_map if?◌then◌else◌
 given_turn what (some y) t a r = refl
 given_turn what none true a r = refl
 given_turn what none false a r = refl
@@ -119,7 +119,7 @@ module _ {A B : Type 0} (n : ℕ) (good full single : A → Bool) (what : A → 
       large = g.large;
       empty = g.empty or ~ full x.1;
       twice = g.twice or (listed g x.0 or ~ single x.1);
-      given = λ v. else_try (g.given v) (only_if (v == x.0) (what x.1));
+      given = λ v. else_try (g.given v) (only_if (v =? x.0) (what x.1));
     }
     unfolding step
     step_in e = if-true _ _ _ e
@@ -176,10 +176,10 @@ module _ {A B : Type 0} (n : ℕ) (good full single : A → Bool) (what : A → 
     large = g.large;
     empty = g.empty or ~ full x.1;
     twice = g.twice or (listed g x.0 or ~ single x.1);
-    given = λ v. else_try (g.given v) (only_if (v == x.0) (what x.1));
-  })) (λ i. listed g i or i == x.0)
+    given = λ v. else_try (g.given v) (only_if (v =? x.0) (what x.1));
+  })) (λ i. listed g i or i =? x.0)
   unfolding listed
-  listed_turn g x = fun_ext (λ i. some_or (g.given i) (i == x.0) (what x.1))
+  listed_turn g x = fun_ext (λ i. some_or (g.given i) (i =? x.0) (what x.1))
 
   gather_twice : (g : Gathered B) (xs : List (ℕ × A)) → every entry_below xs ≡ true
       → (here g xs).twice ≡ (g.twice or ~ (fresh (listed g) (firsts xs) & every single (seconds xs)))

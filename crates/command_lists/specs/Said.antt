@@ -8,7 +8,7 @@ use Rattle.model.specs.Maps.{Map, if_there}
 use Rattle.model.specs.Questions.{each_below, member_below}
 use Rattle.command_lists.specs.Gathered.{Gathered, gather, nothing, step}
 use Rattle.sets.specs.Sets.{Set, bit}
-use Rattle.sets.specs.Tests.{◌&◌, ◌<?◌, ◌==◌, ◌≤?◌, if◌then◌else◌}
+use Rattle.sets.specs.Tests.{◌&◌, ◌<?◌, ◌=?◌, ◌≤?◌, if?◌then◌else◌}
 
 -- ---- lists of a command
 
@@ -94,7 +94,7 @@ abbrev pub left_out : ℕ
 left_out = 65535
 
 unfoldable pub version_said : ℕ → Option ℕ
-version_said x = if x == left_out then none else some x
+version_said x = if? x =? left_out then none else some x
 
 unfoldable pub members_said : List ℕ → List ℕ → Members
 members_said ms xs = paired components none version_said ms xs
@@ -102,8 +102,8 @@ members_said ms xs = paired components none version_said ms xs
 -- For each version the length of its composition, and the members and their versions of all compositions one after the other. Where
 -- these lists don't belong together an entry follows that is not below its limit.
 unfoldable pub compositions_said : List ℕ → List ℕ → List ℕ → List ℕ → List (ℕ × Members)
-compositions_said [] ls ms xs = if non_empty ls then (versions, []) ∷ [] else (if non_empty ms then (versions, []) ∷ [] else (if non_empty xs then (versions, []) ∷ [] else []))
+compositions_said [] ls ms xs = if? non_empty ls then (versions, []) ∷ [] else (if? non_empty ms then (versions, []) ∷ [] else (if? non_empty xs then (versions, []) ∷ [] else []))
 compositions_said (v ∷ vs) [] ms xs = (versions, []) ∷ []
 compositions_said (v ∷ vs) (l ∷ ls) ms xs =
     let rest = compositions_said vs ls (drop l ms) (drop l xs) in
-    if l ≤? length ms & l ≤? length xs then (v, members_said (take l ms) (take l xs)) ∷ rest else (versions, []) ∷ []
+    if? l ≤? length ms & l ≤? length xs then (v, members_said (take l ms) (take l xs)) ∷ rest else (versions, []) ∷ []

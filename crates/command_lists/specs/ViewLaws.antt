@@ -19,8 +19,8 @@ use Rattle.command_lists.specs.Views.{byte_at, composition_view, held, mark_at, 
 use Rattle.command_lists.specs.Views.{set_at, sets_view, usable_view}
 use Rattle.sets.specs.SetLaws.{bit_below, bit_zero}
 use Rattle.sets.specs.Sets.{Set, bit, with}
-use Rattle.sets.specs.TestLaws.{<?_in, <?_out, ==-in, ==-not, ==-same, and-false, and_in, and-true, bool?, fails, if-false, if-true, or-false, or_l, or_r, same?}
-use Rattle.sets.specs.Tests.{◌&◌, ◌<?◌, ◌==◌, ◌or◌, if◌then◌else◌, ~◌}
+use Rattle.sets.specs.TestLaws.{<?_in, <?_out, =?-in, =?-not, =?-same, and-false, and_in, and-true, bool?, fails, if-false, if-true, or-false, or_l, or_r, same?}
+use Rattle.sets.specs.Tests.{◌&◌, ◌<?◌, ◌=?◌, ◌or◌, if?◌then◌else◌, ~◌}
 use Rattle.command_lists.specs.declared.Composition.{Composition}
 use Rattle.command_lists.specs.declared.Numbers.{Numbers}
 use Rattle.command_lists.specs.declared.Sets.{Sets}
@@ -39,11 +39,11 @@ module _ {B : Type 0} where
 
 with_here : (a : Set) (v : ℕ) → with a v v ≡ true
 unfolding with ◌or◌
-with_here a v = rw (==-same v) refl
+with_here a v = rw (=?-same v) refl
 
 with_else : (a : Set) (v i : ℕ) → i ≢ v → with a v i ≡ a i
 unfolding with
-with_else a v i q = or-false _ _ (==-not _ _ q)
+with_else a v i q = or-false _ _ (=?-not _ _ q)
 
 else_first : {B : Type 0} (o : Option B) (x y : B) → o ≡ some x → else_try o (some y) ≡ some x
 unfolding else_try
@@ -78,18 +78,18 @@ module _ {A B : Type 0} (n : ℕ) (good full single : A → Bool) (what : A → 
   -- its number is new
   module _ (w : ℕ) (at' : ℕ → B) (v< : v < n) (ok : good a ≡ true) (new : bit s v ≡ false) (bits : bit w ≡ with (bit s) v) (here : at' v ≡ what a)
       (there : (i : ℕ) → i ≢ v → at' i ≡ at i) where
-    given_new : (i : ℕ) → only_if (bit w i) (at' i) ≡ else_try (only_if (bit s i) (at i)) (only_if (i == v) (what a))
+    given_new : (i : ℕ) → only_if (bit w i) (at' i) ≡ else_try (only_if (bit s i) (at i)) (only_if (i =? v) (what a))
     given_new i = elim (same? i v) [ inl q ↦ rw q is_v_lem | inr q ↦ other q ]
       where
-        is_v_lem : only_if (bit w v) (at' v) ≡ else_try (only_if (bit s v) (at v)) (only_if (v == v) (what a))
+        is_v_lem : only_if (bit w v) (at' v) ≡ else_try (only_if (bit s v) (at v)) (only_if (v =? v) (what a))
         is_v_lem =
             only_yes _ _ (ap (λ (f : Set). f v) bits ∙ with_here _ v) ∙ ap some here
-            ∙ sym (else_second _ _ (only_no _ _ new) ∙ only_yes _ _ (==-same v))
+            ∙ sym (else_second _ _ (only_no _ _ new) ∙ only_yes _ _ (=?-same v))
 
-        other : i ≢ v → only_if (bit w i) (at' i) ≡ else_try (only_if (bit s i) (at i)) (only_if (i == v) (what a))
+        other : i ≢ v → only_if (bit w i) (at' i) ≡ else_try (only_if (bit s i) (at i)) (only_if (i =? v) (what a))
         other q =
             ap₂ only_if (ap (λ (f : Set). f i) bits ∙ with_else _ v i q) (there i q)
-            ∙ sym (ap (else_try _) (only_no _ _ (==-not _ _ q)) ∙ else_none _)
+            ∙ sym (ap (else_try _) (only_no _ _ (=?-not _ _ q)) ∙ else_none _)
 
     twice_new : (t or ~ single a) ≡ (t or (listed was v or ~ single a))
     twice_new = ap (λ (z : Bool). t or z) (sym (or-false _ _ (listed_was ∙ new)))
@@ -102,10 +102,10 @@ module _ {A B : Type 0} (n : ℕ) (good full single : A → Bool) (what : A → 
 
   -- its number stands already
   module _ (v< : v < n) (ok : good a ≡ true) (old : bit s v ≡ true) where
-    given_old : (i : ℕ) → only_if (bit s i) (at i) ≡ else_try (only_if (bit s i) (at i)) (only_if (i == v) (what a))
+    given_old : (i : ℕ) → only_if (bit s i) (at i) ≡ else_try (only_if (bit s i) (at i)) (only_if (i =? v) (what a))
     given_old i = elim (same? i v) [
-      | inl q ↦ rw q (only_yes _ _ old ∙ sym (ap (else_try _) (only_yes _ _ (==-same v)) ∙ else_first _ _ _ (only_yes _ _ old)))
-      | inr q ↦ sym (ap (else_try _) (only_no _ _ (==-not _ _ q)) ∙ else_none _)
+      | inl q ↦ rw q (only_yes _ _ old ∙ sym (ap (else_try _) (only_yes _ _ (=?-same v)) ∙ else_first _ _ _ (only_yes _ _ old)))
+      | inr q ↦ sym (ap (else_try _) (only_no _ _ (=?-not _ _ q)) ∙ else_none _)
     ]
 
     twice_old : true ≡ (t or (listed was v or ~ single a))
@@ -231,7 +231,7 @@ unfolding is_version_or_none if_there
 no_version x k = fails _ (λ t. omega (arith, k, <?_out _ _ t))
 
 mark_none : mark_said 64 ≡ none
-unfolding mark_said if◌then◌else◌ ◌<?◌
+unfolding mark_said if?◌then◌else◌ ◌<?◌
 mark_none = refl
 
 mark_some : (x : ℕ) → x < 64 → mark_said x ≡ some x
@@ -240,7 +240,7 @@ mark_some x k = if-true _ _ _ (<?_in _ _ k)
 
 said_left_out : (x : ℕ) → x ≡ left_out → version_said x ≡ none
 unfolding version_said
-said_left_out x e = if-true _ _ _ (==-in _ _ e)
+said_left_out x e = if-true _ _ _ (=?-in _ _ e)
 
 module _ (g : Composition) (m : ℕ) where
   abbrev MemberGoes : Option ℕ → Composition → Type 0
@@ -269,7 +269,7 @@ module _ (g : Composition) (m : ℕ) where
 
   said_other : (x : ℕ) → x ≢ left_out → version_said x ≡ some x
   unfolding version_said
-  said_other x n = if-false _ _ _ (==-not _ _ n)
+  said_other x n = if-false _ _ _ (=?-not _ _ n)
 
   pub member_version_large : (x : ℕ) → m < 32 → x ≢ left_out → 64 ≤ x → MemberGoes (version_said x) large_is
   unfolding composition_view members_step

@@ -6,7 +6,7 @@ use Rattle.model.specs.Book.{components, versions}
 use Rattle.model.specs.Maps.{Map, only_if}
 use Rattle.command_lists.specs.Gathered.{Gathered}
 use Rattle.sets.specs.Sets.{Set, below, bit}
-use Rattle.sets.specs.Tests.{◌<?◌, if◌then◌else◌}
+use Rattle.sets.specs.Tests.{◌<?◌, if?◌then◌else◌}
 use Rattle.command_lists.specs.declared.Composition.{Composition}
 use Rattle.command_lists.specs.declared.Compositions.{Compositions}
 use Rattle.command_lists.specs.declared.Numbers.{Numbers}
@@ -31,7 +31,7 @@ numbers_view g = held g.large false g.twice g.listed (byte_at g.at)
 
 -- a version of a member as it is kept: any number but a version says that it is left out
 unfoldable pub mark_said : ℕ → Option ℕ
-mark_said x = if x <? versions then some x else none
+mark_said x = if? x <? versions then some x else none
 
 unfoldable pub mark_at : List ℕ → ℕ → Option ℕ
 mark_at at m = mark_said (get_or at m 0)

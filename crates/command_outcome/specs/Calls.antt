@@ -1,7 +1,7 @@
 -- The ten calls with the numbers and slices that they carry, the command that each stands for, and the ten by number.
 use Rattle.std.specs.Prelude.{List, ℕ}
 use Rattle.model.specs.Commands.{ADD-MOD, ADD-MODVAR, ADD-SPEC, ADD-SYS, ADD-SYSVAR, Command, DEL-MOD, DEL-MODVAR, DEL-SPEC, DEL-SYS, DEL-SYSVAR}
-use Rattle.sets.specs.Tests.{◌==◌, if◌then◌else◌}
+use Rattle.sets.specs.Tests.{◌=?◌, if?◌then◌else◌}
 use Rattle.command_lists.specs.Said.{compositions_said, facilities_said, implementations_said, members_said, requirements_said}
 
 pub data Call : Type 0 where
@@ -35,13 +35,13 @@ command_of (del_sysvar c v) = DEL-SYSVAR c v
 -- compositions ls, members ms, their versions xs, sets of facilities qs.
 unfoldable pub call_of : ℕ → ℕ → ℕ → ℕ → ℕ → List ℕ → List ℕ → List ℕ → List ℕ → List ℕ → List ℕ → List ℕ → Call
 call_of kind c v i f us vs is ls ms xs qs =
-    if kind == 0 then add_spec c f vs qs v
-    else (if kind == 1 then add_mod c vs is
-    else (if kind == 2 then add_sys c us vs ls ms xs
-    else (if kind == 3 then add_modvar c v f i
-    else (if kind == 4 then add_sysvar c v ms xs
-    else (if kind == 5 then del_spec c
-    else (if kind == 6 then del_mod c
-    else (if kind == 7 then del_sys c
-    else (if kind == 8 then del_modvar c v
+    if? kind =? 0 then add_spec c f vs qs v
+    else (if? kind =? 1 then add_mod c vs is
+    else (if? kind =? 2 then add_sys c us vs ls ms xs
+    else (if? kind =? 3 then add_modvar c v f i
+    else (if? kind =? 4 then add_sysvar c v ms xs
+    else (if? kind =? 5 then del_spec c
+    else (if? kind =? 6 then del_mod c
+    else (if? kind =? 7 then del_sys c
+    else (if? kind =? 8 then del_modvar c v
     else del_sysvar c v))))))))

@@ -4,11 +4,11 @@ use Rattle.book.specs.Plain.{plain_of}
 use Rattle.model.specs.Commands.{Command}
 use Rattle.model.specs.PlainBook.{answer, next}
 use Rattle.book_rules.specs.Test.{passes}
-use Rattle.sets.specs.Tests.{if◌then◌else◌}
+use Rattle.sets.specs.Tests.{if?◌then◌else◌}
 
 -- "Any call that takes a book: are its numbers below their limits .. no: 25", before all other questions
 unfoldable pub answered : List ℕ → List ℕ → Command → ℕ
-answered s n k = if passes s n then answer (plain_of s n) k else 25
+answered s n k = if? passes s n then answer (plain_of s n) k else 25
 
 -- The call of the command k on the Book s n answers a and hands the Book s' n' back: the plain book's answer with 25 first; refused, the
 -- Book handed in; accepted, a Book that holds the plain book's next and passes the test for 25.

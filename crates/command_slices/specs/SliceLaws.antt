@@ -19,7 +19,7 @@ use Rattle.command_lists.specs.Views.{compositions_view, usable_view}
 use Rattle.sets.specs.SetLaws.{bit_zero}
 use Rattle.sets.specs.Sets.{bit}
 use Rattle.sets.specs.TestLaws.{and-false, and_in, and_no, fails, if-false, if-true, ≤?_in, ≤?_out}
-use Rattle.sets.specs.Tests.{if◌then◌else◌}
+use Rattle.sets.specs.Tests.{if?◌then◌else◌}
 use Rattle.model_laws.specs.RisingLaws.{rising_below, rising-set}
 use Rattle.command_lists.specs.declared.Compositions.{Compositions}
 use Rattle.command_lists.specs.declared.Usable.{Usable}
@@ -191,20 +191,20 @@ module _ (vs ls ms xs : List ℕ) where
       pub lengths_left : (r : Compositions) → i < length ls → compositions_view r ≡ compositions_step (compositions_view g) (versions, [])
           → compositions_view r ≡ compositions_of (compositions_said vs ls ms xs)
       unfolding compositions_said non_empty
-      lengths_left r k q = ends_apart r (rw (drop_of_length-le vs h, drop-cons ls i 0 k) (unfold if◌then◌else◌ in refl)) q
+      lengths_left r k q = ends_apart r (rw (drop_of_length-le vs h, drop-cons ls i 0 k) (unfold if?◌then◌else◌ in refl)) q
 
       pub members_left : (r : Compositions) → length ls ≤ i → a < length ms → compositions_view r ≡ compositions_step (compositions_view g) (versions, [])
           → compositions_view r ≡ compositions_of (compositions_said vs ls ms xs)
-      unfolding compositions_said non_empty if◌then◌else◌
+      unfolding compositions_said non_empty if?◌then◌else◌
       members_left r k l q = ends_apart r (rw (drop_of_length-le vs h, drop_of_length-le ls k, drop-cons ms a 0 l)) q
 
       pub versions_left : (r : Compositions) → length ls ≤ i → length ms ≤ a → a < length xs → compositions_view r ≡ compositions_step (compositions_view g) (versions, [])
           → compositions_view r ≡ compositions_of (compositions_said vs ls ms xs)
-      unfolding compositions_said non_empty if◌then◌else◌
+      unfolding compositions_said non_empty if?◌then◌else◌
       versions_left r k l m q = ends_apart r (rw (drop_of_length-le vs h, drop_of_length-le ls k, drop_of_length-le ms l, drop-cons xs a 0 m)) q
 
       pub compositions_end : length ls ≤ i → length ms ≤ a → length xs ≤ a → compositions_view g ≡ compositions_of (compositions_said vs ls ms xs)
-      unfolding CompositionsLeft compositions_said non_empty if◌then◌else◌ compositions_from gather
+      unfolding CompositionsLeft compositions_said non_empty if?◌then◌else◌ compositions_from gather
       compositions_end k l m =
           sym (inv ∙ ap (compositions_from (compositions_view g)) none_left)
         where

@@ -8,7 +8,7 @@ use Rattle.model.specs.Book.{components, facilities, implementations, versions}
 use Rattle.model.specs.Lists.{elem, every, firsts, non_empty, seconds}
 use Rattle.model.specs.Maps.{if_there, is_some, option_map}
 use Rattle.model.specs.Questions.{each_below, in_limits, member_below}
-use Rattle.sets.specs.TestLaws.{<?_in, <?_out, ==-in, and_in, and_l, and_r, or_l, or_out, or_r}
+use Rattle.sets.specs.TestLaws.{<?_in, <?_out, =?-in, and_in, and_l, and_r, or_l, or_out, or_r}
 use Rattle.sets.specs.Tests.{◌&◌, ◌<?◌}
 use Rattle.text.specs.Bytes.{among}
 use Rattle.text.specs.Language.{Name, NamedMembers}
@@ -169,6 +169,6 @@ pub standard-elem : {A B : Type 0} (t : Table) (g : Name × A → B) (s : Name) 
 unfolding among elem firsts
 standard-elem t g s [] a = a
 standard-elem t g s (x ∷ xs) a = elim (or_out _ _ a) [
-  | inl q ↦ or_l _ _ (==-in _ _ (ap (number t) (same_out s x.0 q)))
+  | inl q ↦ or_l _ _ (=?-in _ _ (ap (number t) (same_out s x.0 q)))
   | inr q ↦ or_r _ _ (standard-elem t g s xs q)
 ]

@@ -6,7 +6,7 @@ use Rattle.demand_1_2.specs.Verdict.{Part, book_nos, its_counts, rule}
 use Rattle.model.specs.Book.{Book, Modules, Spec, Specs, System, Systems}
 use Rattle.model.specs.Maps.{change, only_if, put}
 use Rattle.model.specs.Teaching.{K, everything, one, probe, shell, tank, temp, v2, va, vb}
-use Rattle.sets.specs.Tests.{◌<?◌, ◌==◌, ◌or◌}
+use Rattle.sets.specs.Tests.{◌<?◌, ◌=?◌, ◌or◌}
 
 -- K with other specifications, modules or systems
 abbrev specs_now : Specs → Book
@@ -19,7 +19,7 @@ abbrev systems_now : Systems → Book
 systems_now Y = record { specs = K.specs; modules = K.modules; systems = Y }
 
 abbrev nine_versions : Spec
-nine_versions = record { prov = λ f. f == temp; req = λ v. only_if (v <? 9) (λ f. false); std = one }
+nine_versions = record { prov = λ f. f =? temp; req = λ v. only_if (v <? 9) (λ f. false); std = one }
 
 abbrev one_more : System → System
 one_more y = record { uses = y.uses; comp = put vb (y.comp va) y.comp }
@@ -31,9 +31,9 @@ others =
     -- B2: shell is defined and not specified. What a Book has a definition of has a kind, and is specified.
     (modules_now (put shell (some (λ v. none)) K.modules), rule 2 ∷ []) ∷
     -- B2: tank is both module and system. A component of a Book has one kind.
-    (modules_now (put tank (some (λ v. only_if (v == va) 0)) K.modules), rule 2 ∷ []) ∷
+    (modules_now (put tank (some (λ v. only_if (v =? va) 0)) K.modules), rule 2 ∷ []) ∷
     -- B2: an implementation for a version that probe has not. The implementations and compositions of a Book stand by its slots.
-    (modules_now (put probe (some (λ v. only_if (v == one or v == v2) 0)) K.modules), rule 2 ∷ []) ∷
+    (modules_now (put probe (some (λ v. only_if (v =? one or v =? v2) 0)) K.modules), rule 2 ∷ []) ∷
     -- B2: no implementation for a version that probe has.
     (modules_now (put probe (some (λ v. none)) K.modules), rule 2 ∷ []) ∷
     -- B2: a composition for a version that tank has not.

@@ -12,7 +12,7 @@ use Rattle.model.specs.Queries as queries
 use Rattle.model.specs.Queries.{Query, Reply, asked, found, reply}
 use Rattle.model.specs.Questions.{Question, first_no, in_limits, questions}
 use Rattle.sets.specs.TestLaws.{and_in, and_l, and_r, if-true}
-use Rattle.sets.specs.Tests.{◌&◌, ◌==◌, ◌or◌}
+use Rattle.sets.specs.Tests.{◌&◌, ◌=?◌, ◌or◌}
 use Rattle.text.specs.Language.{CHOICE, DELMOD, DELMODVAR, DELSPEC, DELSYS, DELSYSVAR, MOD, MODVAR, NEEDS, Name, NamedMembers, OUT, PARTS}
 use Rattle.text.specs.Language.{SPEC, STANDARD, SUPPLIES, SYS, SYSVAR, Said, UNDEFINED, UNUSED, WHEREUSED}
 use Rattle.text.specs.SameByNames.{text_of}
@@ -51,31 +51,31 @@ first_among (a_refusal {q} e h) = by_test (λ n. (n ≡ 0) ⊎ (elem n refusals 
 module _ (b : Book) (t : Tables) where
   spec_among : (c : Name) (ps : List Name) (vs : List (Name × List Name)) (d : Name) → whole (SPEC c ps vs d) ≡ true
       → fits (entered t (spec_names c ps vs)) ≡ true → Among (questions b (spec_numbered (entered t (spec_names c ps vs)) c ps vs d))
-  unfolding questions spec_numbered whole elem refusals ◌==◌ ◌or◌
+  unfolding questions spec_numbered whole elem refusals ◌=?◌ ◌or◌
   spec_among c ps vs d w f =
       a_yes (spec_limits_lem t c ps vs d f (and_r (non_empty vs) _ w)) (a_yes (some_mapped _ vs (and_l _ _ w))
       (a_refusal refl (a_refusal refl (a_refusal refl (a_refusal refl (a_yes (standard-elem _ _ d vs (and_r (non_empty vs) _ w)) no_question))))))
 
   mod_among : (c : Name) (is : List (Name × Name)) → whole (MOD c is) ≡ true → fits (entered t (mod_names c is)) ≡ true
       → Among (questions b (mod_numbered (entered t (mod_names c is)) c is))
-  unfolding questions mod_numbered whole every elem refusals ◌&◌ ◌==◌ ◌or◌
+  unfolding questions mod_numbered whole every elem refusals ◌&◌ ◌=?◌ ◌or◌
   mod_among c is w f = a_yes (mod_limits t c is f) (a_yes (some_mapped _ is w) (all-refusals _ refl))
 
   sys_among : (c : Name) (us : List Name) (ks : List (Name × NamedMembers)) → whole (SYS c us ks) ≡ true
       → fits (entered t (sys_names c us ks)) ≡ true → Among (questions b (sys_numbered (entered t (sys_names c us ks)) c us ks))
-  unfolding questions sys_numbered numbered_members whole every elem refusals ◌&◌ ◌==◌ ◌or◌
+  unfolding questions sys_numbered numbered_members whole every elem refusals ◌&◌ ◌=?◌ ◌or◌
   sys_among c us ks w f =
       a_yes (sys_limits t c us ks f) (a_yes (and_in _ _ (some_mapped _ ks (and_l _ _ w)) (seconds-some _ _ ks (and_r (non_empty ks) _ w)))
       (all-refusals _ refl))
 
   modvar_among : (c v : Name) (rs : List Name) (i : Name) → fits (entered t (modvar_names c v rs i)) ≡ true
       → Among (questions b (modvar_numbered (entered t (modvar_names c v rs i)) c v rs i))
-  unfolding questions modvar_numbered every elem refusals ◌&◌ ◌==◌ ◌or◌
+  unfolding questions modvar_numbered every elem refusals ◌&◌ ◌=?◌ ◌or◌
   modvar_among c v rs i f = a_yes (modvar_limits t c v rs i f) (all-refusals _ refl)
 
   sysvar_among : (c v : Name) (ms : NamedMembers) → whole (SYSVAR c v ms) ≡ true → fits (entered t (sysvar_names c v ms)) ≡ true
       → Among (questions b (sysvar_numbered (entered t (sysvar_names c v ms)) c v ms))
-  unfolding questions sysvar_numbered numbered_members whole every elem refusals ◌&◌ ◌==◌ ◌or◌
+  unfolding questions sysvar_numbered numbered_members whole every elem refusals ◌&◌ ◌=?◌ ◌or◌
   sysvar_among c v ms w f = a_yes (sysvar_limits t c v ms f) (a_yes (some_mapped _ ms w) (all-refusals _ refl))
 
 -- ---- what may come of the command k in the state s
@@ -101,7 +101,7 @@ module _ (s : State) (k : Said) where
       → (fits (entered s.tables m) ≡ true → Among (questions s.book (f (entered s.tables m)))) → May s k (add s m f)
   unfolding add
   add_may m f h = by_test (May s k) (fits (entered s.tables m)) _ _ (λ e. told_may _ _ _ (h e))
-      (unfold elem refusals ◌==◌ ◌or◌ in refl)
+      (unfold elem refusals ◌=?◌ ◌or◌ in refl)
 
   one_may : (n : ℕ) (c : Name) (f : ℕ → Result) → elem n refusals ≡ true
       → ((d : ℕ) → place s.tables.comps c ≡ some d → May s k (f d)) → May s k (of_component s n c f)
@@ -121,7 +121,7 @@ module _ (s : State) (k : Said) where
       go : (o p : Option ℕ) → place s.tables.comps c ≡ o → place s.tables.vers v ≡ p → May s k (for_pair n there o p f)
       go none p q r = unfold for_pair in e
       go (some d) none q r = unfold for_pair in
-          by_test (May s k) (there d) (refused 10) (refused n) (λ y. unfold elem refusals ◌==◌ ◌or◌ in refl) e
+          by_test (May s k) (there d) (refused 10) (refused n) (λ y. unfold elem refusals ◌=?◌ ◌or◌ in refl) e
       go (some d) (some w) q r = unfold for_pair in h d w q r
 
   asked_may : (q : Query) → Among (asked s.book q) → May s k (texts.asked s q)
@@ -146,7 +146,7 @@ module _ (s : State) (k : Said) where
 
 -- a command that was read, in a state whose tables hold no more names than they have places
 pub carry_may : (s : State) (k : Said) → fits s.tables ≡ true → whole k ≡ true → May s k (carry s k)
-unfolding carry questions asked in_limits every elem refusals ◌&◌ ◌==◌ ◌or◌
+unfolding carry questions asked in_limits every elem refusals ◌&◌ ◌=?◌ ◌or◌
 carry_may s (SPEC c ps vs d) f w = add_may s _ _ _ (spec_among s.book s.tables c ps vs d w)
 carry_may s (MOD c is) f w = add_may s _ _ _ (mod_among s.book s.tables c is w)
 carry_may s (SYS c us ks) f w = add_may s _ _ _ (sys_among s.book s.tables c us ks w)

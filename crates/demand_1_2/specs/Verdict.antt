@@ -8,7 +8,7 @@ use Rattle.model.specs.Commands.{Command}
 use Rattle.model.specs.Limits.{one_to_eight}
 use Rattle.model.specs.Lists.{every, keep}
 use Rattle.model.specs.Rules.{B1, B2, B3, B4, B5, B6, B7, B8, B9}
-use Rattle.sets.specs.Tests.{◌&◌, ◌<?◌, ◌==◌, ~◌}
+use Rattle.sets.specs.Tests.{◌&◌, ◌<?◌, ◌=?◌, ~◌}
 
 -- ---- Books as arrays
 
@@ -48,7 +48,7 @@ write_all b (x ∷ xs) = write_all (write b x) xs
 
 -- the arrays have the lengths and hold the numbers that a Book value can have
 unfoldable pub is_value : Arrays → Bool
-is_value b = length b.0 == 576 & every (λ x. x <? 2 ^ 64) b.0 & length b.1 == 8768 & every (λ x. x <? 256) b.1
+is_value b = length b.0 =? 576 & every (λ x. x <? 2 ^ 64) b.0 & length b.1 =? 8768 & every (λ x. x <? 256) b.1
 
 -- ---- the parts of the test for 25
 

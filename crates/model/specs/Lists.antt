@@ -3,7 +3,7 @@ use Rattle.std.specs.Prelude.{Bool, false, true, List, [], ◌∷◌, max, suc, 
 use Rattle.std.proofs.Math.Option.{Option, none, some}
 use Rattle.model.specs.Maps.{Map, else_try}
 use Rattle.sets.specs.Sets.{Set}
-use Rattle.sets.specs.Tests.{◌&◌, ◌==◌, ◌or◌, if◌then◌else◌, ~◌}
+use Rattle.sets.specs.Tests.{◌&◌, ◌=?◌, ◌or◌, if?◌then◌else◌, ~◌}
 
 unfoldable pub non_empty : {A : Type 0} → List A → Bool
 non_empty [] = false
@@ -16,7 +16,7 @@ every f (x ∷ xs) = f x & every f xs
 -- the number n stands in the list
 unfoldable pub elem : ℕ → List ℕ → Bool
 elem n [] = false
-elem n (x ∷ xs) = n == x or elem n xs
+elem n (x ∷ xs) = n =? x or elem n xs
 
 -- no number stands twice
 unfoldable pub once : List ℕ → Bool
@@ -30,7 +30,7 @@ set_of xs n = elem n xs
 -- what stands beside the number n in a list of pairs: at its first place
 unfoldable pub beside : {A : Type 0} → List (ℕ × A) → Map A
 beside [] n = none
-beside (x ∷ xs) n = if n == x.0 then some x.1 else beside xs n
+beside (x ∷ xs) n = if? n =? x.0 then some x.1 else beside xs n
 
 unfoldable pub firsts : {A : Type 0} → List (ℕ × A) → List ℕ
 firsts [] = []

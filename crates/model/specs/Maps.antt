@@ -1,7 +1,7 @@
 -- What may be missing, and maps from numbers.
 use Rattle.std.specs.Prelude.{Bool, false, true, ℕ}
 use Rattle.std.proofs.Math.Option.{Option, none, some}
-use Rattle.sets.specs.Tests.{◌==◌, if◌then◌else◌}
+use Rattle.sets.specs.Tests.{◌=?◌, if?◌then◌else◌}
 
 unfoldable pub is_some : {A : Type 0} → Option A → Bool
 is_some none = false
@@ -50,7 +50,7 @@ Map A = ℕ → Option A
 
 -- the number n mapped to x (taken out, where x is `none`), and every other number as in m
 unfoldable pub put : {A : Type 0} → ℕ → Option A → Map A → Map A
-put n x m k = if k == n then x else m k
+put n x m k = if? k =? n then x else m k
 
 -- the map m with what it holds at n changed by g
 unfoldable pub change : {A : Type 0} → ℕ → (A → A) → Map A → Map A

@@ -4,15 +4,15 @@ use Rattle.std.proofs.Math.Option.{Option}
 use Rattle.model.specs.Book.{Book, Pair, Systems, components, has_version, is_system, member, versions}
 use Rattle.model.specs.Lists.{first_from, greatest, if_found}
 use Rattle.model.specs.Maps.{has, if_there, only_if, option_map, or_else}
-use Rattle.sets.specs.Tests.{◌&◌, ◌==◌, ◌or◌, all, any, count, ~◌}
+use Rattle.sets.specs.Tests.{◌&◌, ◌=?◌, ◌or◌, all, any, count, ~◌}
 
 -- "The parts list of a pair holds what the pair is made from: itself and all pairs reached through compositions. Only a system's pair
 -- has members, those of its composition." The pair d, w is the pair c, v or is reached from it in up to n steps:
 unfoldable pub part_in : ℕ → Systems → ℕ → ℕ → ℕ → ℕ → Bool
-part_in zero Y c v d w = c == d & v == w
+part_in zero Y c v d w = c =? d & v =? w
 part_in (suc n) Y c v d w =
     let further = any components (λ e. has (member Y c v e) (λ x. part_in n Y e x d w)) in
-    (c == d & v == w) or further
+    (c =? d & v =? w) or further
 
 -- With B4 no chain is longer than the number of systems plus one, so the bound bounds nothing (`part_means`).
 unfoldable pub is_part : Systems → ℕ → ℕ → ℕ → ℕ → Bool
@@ -21,7 +21,7 @@ is_part Y c v d w = part_in components Y c v d w
 -- the pair d, w stands in the list
 unfoldable pub listed : List Pair → ℕ → ℕ → Bool
 listed [] d w = false
-listed (q ∷ qs) d w = (d == q.0 & w == q.1) or listed qs d w
+listed (q ∷ qs) d w = (d =? q.0 & w =? q.1) or listed qs d w
 
 -- the members of the pair d, w are all listed
 unfoldable pub members_listed : Systems → List Pair → ℕ → ℕ → Bool

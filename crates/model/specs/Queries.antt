@@ -7,7 +7,7 @@ use Rattle.model.specs.PartsList.{longest_chain, parts}
 use Rattle.model.specs.Questions.{Question, each_below, first_no, usable_in_none}
 use Rattle.model.specs.Rules.{needs, reaches}
 use Rattle.sets.specs.Sets.{subset}
-use Rattle.sets.specs.Tests.{◌&◌, ◌<?◌, ◌==◌, ~◌}
+use Rattle.sets.specs.Tests.{◌&◌, ◌<?◌, ◌=?◌, ~◌}
 
 pub data Query : Type 0 where
   SUPPLIES STANDARD WHEREUSED : ℕ → Query
@@ -50,7 +50,7 @@ unused b = rising components (λ c. is_module b.modules c & usable_in_none b c)
 
 -- lines 21.2 to 21.6: "WHEREUSED follows usable lists, not compositions." (`whereused_means`)
 unfoldable pub where_used : Book → ℕ → List ℕ
-where_used b c = rising components (λ s. ~ (s == c) & reaches b.systems s c)
+where_used b c = rising components (λ s. ~ (s =? c) & reaches b.systems s c)
 
 -- ---- what comes back
 

@@ -10,7 +10,7 @@ use Rattle.model.specs.Lists.{elem, every, firsts, non_empty, once, seconds, set
 use Rattle.model.specs.Maps.{has, if_there}
 use Rattle.model.specs.Rules.{B3, B4, B5_to_B9}
 use Rattle.sets.specs.Sets.{Set}
-use Rattle.sets.specs.Tests.{◌&◌, ◌<?◌, ◌==◌, ◌⇔◌, ◌≤?◌, all, if◌then◌else◌, ~◌}
+use Rattle.sets.specs.Tests.{◌&◌, ◌<?◌, ◌=?◌, ◌⇔◌, ◌≤?◌, all, if?◌then◌else◌, ~◌}
 
 -- ---- what a question asks
 
@@ -56,7 +56,7 @@ usable_in_none b c = all components (λ s. ~ usable b.systems s c)
 
 -- "does no composition hold this pair?"
 unfoldable pub held_by_none : Book → ℕ → ℕ → Bool
-held_by_none b c v = all components (λ s. all versions (λ w. ~ has (member b.systems s w c) (λ x. x == v)))
+held_by_none b c v = all components (λ s. all versions (λ w. ~ has (member b.systems s w c) (λ x. x =? v)))
 
 -- ---- the questions
 
@@ -67,7 +67,7 @@ Question = ℕ × Bool
 -- "the number at the first no", 0 without one
 unfoldable pub first_no : List Question → ℕ
 first_no [] = 0
-first_no (q ∷ qs) = let rest = first_no qs in if q.1 then rest else q.0
+first_no (q ∷ qs) = let rest = first_no qs in if? q.1 then rest else q.0
 
 -- 25 is not among them. It comes first, and is asked of the Book that a call takes: `answered` (command_outcome), `replied_to`
 -- (query_replies), `parts_answer` (parts) and `text_answer` (names_test) have it. A book that was reached always passes.
@@ -128,11 +128,11 @@ questions b (DEL-MODVAR c v) =
     (1, in_limits (DEL-MODVAR c v)) ∷
     (6, is_module b.modules c) ∷
     (10, has_version b.specs c v) ∷
-    (15, ~ (v == standard b.specs c)) ∷
+    (15, ~ (v =? standard b.specs c)) ∷
     (18, held_by_none b c v) ∷ []
 questions b (DEL-SYSVAR c v) =
     (1, in_limits (DEL-SYSVAR c v)) ∷
     (7, is_system b.systems c) ∷
     (10, has_version b.specs c v) ∷
-    (15, ~ (v == standard b.specs c)) ∷
+    (15, ~ (v =? standard b.specs c)) ∷
     (18, held_by_none b c v) ∷ []

@@ -5,14 +5,14 @@ use Rattle.model.specs.Book.{is_defined, is_member, is_module, is_system, member
 use Rattle.model.specs.Book.{versions}
 use Rattle.model.specs.Maps.{has, if_there, is_some}
 use Rattle.sets.specs.Sets.{Set, disjoint, meet, minus, subset, union}
-use Rattle.sets.specs.Tests.{◌&◌, ◌==◌, ◌or◌, ◌⇒◌, ◌⇔◌, all, any, if◌then◌else◌, ~◌}
+use Rattle.sets.specs.Tests.{◌&◌, ◌=?◌, ◌or◌, ◌⇒◌, ◌⇔◌, all, any, if?◌then◌else◌, ~◌}
 
 -- "Needs (lines 2.47 to 2.52): of a component that is no system, what its version requires; the needs of a system version are the
 -- union of its members' needs. What the members supply to one another is not taken away." Down to n levels of systems:
 unfoldable pub needs_to : ℕ → Specs → Systems → ℕ → ℕ → Set
 needs_to zero S Y c v f = requires S c v f
 needs_to (suc n) S Y c v f =
-    if is_system Y c then any components (λ d. has (member Y c v d) (λ w. needs_to n S Y d w f)) else requires S c v f
+    if? is_system Y c then any components (λ d. has (member Y c v d) (λ w. needs_to n S Y d w f)) else requires S c v f
 
 -- With B4 a book has no more levels than components, so the bound bounds nothing (`needs_means`).
 unfoldable pub needs : Specs → Systems → ℕ → ℕ → Set
@@ -96,7 +96,7 @@ B5 S Y = each_composition Y (B5_at S Y)
 -- "B6 Two members provide no common facility."
 unfoldable pub B6_at : Specs → Systems → ℕ → ℕ → Bool
 B6_at S Y s v =
-    all components (λ c. is_member Y s v c ⇒ all components (λ d. is_member Y s v d ⇒ ~ (c == d) ⇒
+    all components (λ c. is_member Y s v c ⇒ all components (λ d. is_member Y s v d ⇒ ~ (c =? d) ⇒
     disjoint facilities (provides S c) (provides S d)))
 
 unfoldable pub B6 : Specs → Systems → Bool

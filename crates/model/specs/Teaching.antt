@@ -20,7 +20,7 @@ use Rattle.model.specs.Rules.{B1, B1_to_B9, B1_at, B2, B2_at, B3, B3_at, B4, B5,
 use Rattle.model.specs.Rules.{B9, B9_at, each_composition, each_specified, each_system, needs, needs_to, offered, p, r, reaches}
 use Rattle.model.specs.Rules.{reaches_in}
 use Rattle.sets.specs.Sets.{disjoint, meet, minus, subset, union}
-use Rattle.sets.specs.Tests.{◌&◌, ◌<?◌, ◌==◌, ◌or◌, ◌⇒◌, ◌⇔◌, ◌≤?◌, all, any, count, if◌then◌else◌, one_if, ~◌}
+use Rattle.sets.specs.Tests.{◌&◌, ◌<?◌, ◌=?◌, ◌or◌, ◌⇒◌, ◌⇔◌, ◌≤?◌, all, any, count, if?◌then◌else◌, one_if, ~◌}
 
 -- ---- names, in the order of the example's text
 
@@ -182,7 +182,7 @@ table =
 -- To unfold this is to unfold all that computes.
 unfoldable pub everything : Unit {0}
 unfolding
-    ~◌ ◌&◌ ◌or◌ if◌then◌else◌ ◌==◌ ◌<?◌ ◌≤?◌ ◌⇒◌ ◌⇔◌ all any one_if count
+    ~◌ ◌&◌ ◌or◌ if?◌then◌else◌ ◌=?◌ ◌<?◌ ◌≤?◌ ◌⇒◌ ◌⇔◌ all any one_if count
     union subset disjoint meet minus
     is_some has if_there option_map or_else and_then else_try only_if put change
     non_empty every elem once set_of beside firsts seconds keep from rising first_from if_found greatest

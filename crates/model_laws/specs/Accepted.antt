@@ -7,9 +7,9 @@ use Rattle.model.specs.Limits.{ModuleLimits, SpecLimits, SystemLimits}
 use Rattle.model.specs.Lists.{beside, elem, every, firsts, seconds}
 use Rattle.model.specs.Questions.{Question, each_below, exactly, first_no}
 use Rattle.model.specs.Rules.{B3, B4, B5_to_B9}
-use Rattle.sets.specs.TestLaws.{<?_out, ==-out, all_out, and_l, and_r, bool?, clash, fails, if-false, if-true, iff_out, iff→≡}
+use Rattle.sets.specs.TestLaws.{<?_out, =?-out, all_out, and_l, and_r, bool?, clash, fails, if-false, if-true, iff_out, iff→≡}
 use Rattle.sets.specs.TestLaws.{not_out, or_l, or_r}
-use Rattle.sets.specs.Tests.{◌<?◌, ◌==◌, ~◌}
+use Rattle.sets.specs.Tests.{◌<?◌, ◌=?◌, ~◌}
 use Rattle.model_laws.specs.Frame.{B3_kept, B5_kept, B6_kept, B7_kept, B8_kept, B9_kept, Frame, mem_usable}
 use Rattle.model_laws.specs.Good.{B1Facts, B2Facts, Good}
 use Rattle.model_laws.specs.ListLaws.{beside_second, every-elem}
@@ -51,8 +51,8 @@ pub beside_pair : {A : Type 0} (t : ℕ × A → Bool) (xs : List (ℕ × A)) �
 unfolding beside every
 beside_pair t [] h n a e = no_some e
 beside_pair t (x ∷ xs) h n a e =
-    elim (bool? (n == x.0)) [
-      | inl q ↦ ap₂ (λ i j. t (i, j)) (==-out _ _ q) (sym (some-injective _ _ (sym (if-true _ _ _ q) ∙ e))) ∙ and_l _ _ h
+    elim (bool? (n =? x.0)) [
+      | inl q ↦ ap₂ (λ i j. t (i, j)) (=?-out _ _ q) (sym (some-injective _ _ (sym (if-true _ _ _ q) ∙ e))) ∙ and_l _ _ h
       | inr q ↦ beside_pair t xs (and_r _ _ h) n a (sym (if-false _ _ _ q) ∙ e)
     ]
 

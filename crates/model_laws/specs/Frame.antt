@@ -13,7 +13,7 @@ use Rattle.model.specs.Rules.{needs_to, offered, p, r, reaches, reaches_in}
 use Rattle.sets.specs.Sets.{disjoint, meet, minus, subset, union}
 use Rattle.sets.specs.TestLaws.{all_cong, all_in, all_out, and_cong, and_in, and_l, and_r, any_cong, any_in, any_out, clash, fails}
 use Rattle.sets.specs.TestLaws.{imp_cong, imp_in, imp_out, not_in, not_out, or_l, or_out, or_r}
-use Rattle.sets.specs.Tests.{◌&◌, ◌⇒◌, all, any, if◌then◌else◌}
+use Rattle.sets.specs.Tests.{◌&◌, ◌⇒◌, all, any, if?◌then◌else◌}
 use Rattle.model_laws.specs.MapLaws.{and_then_out, has_cong, if_there_cong, if_there_out, is_some_in, is_some_out}
 use Rattle.model_laws.specs.Notions.{own}
 
@@ -73,9 +73,9 @@ module _ (S S' : Specs) (Y Y' : Systems) (F : Frame S S' Y Y') (l : SystemLimits
   unfolding needs_to
   needs_same zero s v c w f e = F.req s v c w f e
   needs_same (suc n) s v c w f e =
-      ap₂ (λ (t x : Bool). if t then x else requires S' c w f) (F.kind s v c w e) (any_cong components (λ d.
+      ap₂ (λ (t x : Bool). if? t then x else requires S' c w f) (F.kind s v c w e) (any_cong components (λ d.
       has_cong (member Y' c w d) (λ x g. needs_same n c w d x f g) ∙ ap (λ (o : Option ℕ). has o (λ x. needs_to n S Y d x f)) (F.same s v c w d e)))
-      ∙ ap (λ (x : Bool). if is_system Y c then any components (λ d. has (member Y c w d) (λ z. needs_to n S Y d z f)) else x) (F.req s v c w f e)
+      ∙ ap (λ (x : Bool). if? is_system Y c then any components (λ d. has (member Y c w d) (λ z. needs_to n S Y d z f)) else x) (F.req s v c w f e)
 
   r_same : (s v : ℕ) → composed Y' s v ≡ true → r S' Y' s v ≡ r S Y s v
   unfolding r needs

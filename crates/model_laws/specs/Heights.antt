@@ -11,9 +11,9 @@ use Rattle.model.specs.Lists.{greatest}
 use Rattle.model.specs.Maps.{has, option_map, or_else}
 use Rattle.model.specs.PartsList.{chain_in, longest_chain}
 use Rattle.model.specs.Rules.{B4, each_system, needs, needs_to, reaches}
-use Rattle.sets.specs.TestLaws.{==-out, ==-same, all_out, and_in, and_l, and_r, any_cong, clash, count_le, count_mono, count_strict}
+use Rattle.sets.specs.TestLaws.{=?-out, =?-same, all_out, and_in, and_l, and_r, any_cong, clash, count_le, count_mono, count_strict}
 use Rattle.sets.specs.TestLaws.{fails, if-false, if-true, imp_out, not_out, or_l, or_out, or_r}
-use Rattle.sets.specs.Tests.{◌==◌, ◌or◌, any, count, if◌then◌else◌}
+use Rattle.sets.specs.Tests.{◌=?◌, ◌or◌, any, count, if?◌then◌else◌}
 use Rattle.model_laws.specs.MapLaws.{has_cong, has_out, is_some_in}
 use Rattle.model_laws.specs.Notions.{direct, is_below, systems_below, through}
 use Rattle.model_laws.specs.Reach.{reaches_all, reaches_sound}
@@ -38,11 +38,11 @@ pub record Sound (Y : Systems) : Type 0 where
   pub mem_usable : (s v c w : ℕ) → member Y s v c ≡ some w → usable Y s c ≡ true
 
 module _ (Y : Systems) (ok : Sound Y) where
-  step : (s c d : ℕ) → usable Y s c ≡ true → (c == d or reaches Y c d) ≡ true → reaches Y s d ≡ true
+  step : (s c d : ℕ) → usable Y s c ≡ true → (c =? d or reaches Y c d) ≡ true → reaches Y s d ≡ true
   unfolding reaches
   step s c d u t =
       elim (or_out _ _ t) [
-        | inl e ↦ reaches_all Y ok.usable< components (le_refl _) (direct (rw (==-out _ _ e) at u))
+        | inl e ↦ reaches_all Y ok.usable< components (le_refl _) (direct (rw (=?-out _ _ e) at u))
         | inr h ↦ reaches_all Y ok.usable< components (le_refl _) (through u (reaches_sound components Y c d h))
       ]
 
@@ -55,14 +55,14 @@ module _ (Y : Systems) (ok : Sound Y) where
       (λ i k t. and_in _ _ (and_l _ _ t) (or_r _ _ (step s c i u (and_r _ _ t))))
       s l
       (fails _ (λ t. clash (step s c s u (and_r _ _ t)) (no_way_back Y ok.b4 s l y)))
-      (and_in _ _ y (or_l _ _ (==-same s)))
+      (and_in _ _ y (or_l _ _ (=?-same s)))
 
   pub high : (c : ℕ) → is_system Y c ≡ true → 0 < systems_below Y c
   unfolding systems_below is_below
-  high c y = omega (arith, count_strict components (λ i. false) (is_below Y c) (λ i k t. clash t refl) c (ok.sys_lim c y) refl (and_in _ _ y (or_l _ _ (==-same c))))
+  high c y = omega (arith, count_strict components (λ i. false) (is_below Y c) (λ i k t. clash t refl) c (ok.sys_lim c y) refl (and_in _ _ y (or_l _ _ (=?-same c))))
 
   needs_to_suc : (n : ℕ) (S : Specs) (c v f : ℕ)
-      → needs_to (suc n) S Y c v f ≡ (if is_system Y c then any components (λ d. has (member Y c v d) (λ w. needs_to n S Y d w f)) else requires S c v f)
+      → needs_to (suc n) S Y c v f ≡ (if? is_system Y c then any components (λ d. has (member Y c v d) (λ w. needs_to n S Y d w f)) else requires S c v f)
   unfolding needs_to
   needs_to_suc n S c v f = refl
 
@@ -78,7 +78,7 @@ module _ (Y : Systems) (ok : Sound Y) where
   needs_enough S zero (suc m) c v f hn hm = sym (low (suc m) S c v f (fails _ (λ y. omega (arith, high c y))))
   needs_enough S (suc n) zero c v f hn hm = low (suc n) S c v f (fails _ (λ y. omega (arith, high c y)))
   needs_enough S (suc n) (suc m) c v f hn hm =
-      ap (λ (x : Bool). if is_system Y c then x else requires S c v f) (any_cong components (λ d. has_cong (member Y c v d) (λ w e.
+      ap (λ (x : Bool). if? is_system Y c then x else requires S c v f) (any_cong components (λ d. has_cong (member Y c v d) (λ w e.
       let h = falls c d (ok.mem_usable c v d w e) in needs_enough S n m d w f (omega arith) (omega arith))))
 
   pub bound : (c : ℕ) → systems_below Y c ≤ components

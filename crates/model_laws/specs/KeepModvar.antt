@@ -10,7 +10,7 @@ use Rattle.model.specs.Maps.{change, has, is_some, put}
 use Rattle.model.specs.PlainBook.{answer}
 use Rattle.model.specs.Questions.{free, in_limits, questions}
 use Rattle.sets.specs.Sets.{Set}
-use Rattle.sets.specs.TestLaws.{<?_out, ==-in, and_l, and_r, clash, not_out}
+use Rattle.sets.specs.TestLaws.{<?_out, =?-in, and_l, and_r, clash, not_out}
 use Rattle.model_laws.specs.Accepted.{all_yes, below_elem, kept, member_version_lem}
 use Rattle.model_laws.specs.Alike.{mod_at, mod_is, mod_off, pair?, spec_provides, spec_requires, spec_specified, spec_version_lem}
 use Rattle.model_laws.specs.Good.{Good}
@@ -93,5 +93,5 @@ unfolding answer questions after is_some
 del_modvar b c v g h =
     let y = all_yes (questions b (DEL-MODVAR c v)) (omega arith) h in
     modvar b g c v none none refl (λ n e. no_some e) y.1.0
-    (del_fit b g c v (g.b2.mod_spec c y.1.0) (λ e. clash (==-in _ _ e) (not_out _ y.1.1.1.0)))
+    (del_fit b g c v (g.b2.mod_spec c y.1.0) (λ e. clash (=?-in _ _ e) (not_out _ y.1.1.1.0)))
     (not_held b g c v y.1.1.1.1.0)

@@ -11,7 +11,7 @@ use Rattle.model.specs.PlainBook.{answer}
 use Rattle.model.specs.Questions.{in_limits, questions}
 use Rattle.model.specs.Rules.{B3, B4, r}
 use Rattle.sets.specs.Sets.{Set}
-use Rattle.sets.specs.TestLaws.{<?_out, ==-in, and_l, and_r, clash, not_out}
+use Rattle.sets.specs.TestLaws.{<?_out, =?-in, and_l, and_r, clash, not_out}
 use Rattle.model_laws.specs.Accepted.{all_yes, from_21, kept}
 use Rattle.model_laws.specs.Alike.{pair?, spec_provides, spec_requires, spec_specified, spec_version_lem, sys_at, sys_composed}
 use Rattle.model_laws.specs.Alike.{sys_is, sys_member, sys_usable}
@@ -121,7 +121,7 @@ del_sysvar b c v g h =
     let sys = y.1.0 in
     let S = b.specs in let Y = b.systems in
     let there = g.b2.sys_spec c sys in
-    let fit = del_fit b g c v there (λ e. clash (==-in _ _ e) (not_out _ y.1.1.1.0)) in
+    let fit = del_fit b g c v there (λ e. clash (=?-in _ _ e) (not_out _ y.1.1.1.0)) in
     let free_of = not_held b g c v y.1.1.1.1.0 in
     let q : Option Set = none in
     let m : Option (Map ℕ) = none in

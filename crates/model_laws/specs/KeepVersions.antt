@@ -10,8 +10,8 @@ use Rattle.model.specs.Maps.{change, has, is_some}
 use Rattle.model.specs.Questions.{held_by_none}
 use Rattle.model.specs.Rules.{r}
 use Rattle.sets.specs.Sets.{Set}
-use Rattle.sets.specs.TestLaws.{==-in, all_out, clash, count_mono, not_out, or_l, or_r, same?}
-use Rattle.sets.specs.Tests.{◌==◌, ◌or◌, count}
+use Rattle.sets.specs.TestLaws.{=?-in, all_out, clash, count_mono, not_out, or_l, or_r, same?}
+use Rattle.sets.specs.Tests.{◌=?◌, ◌or◌, count}
 use Rattle.model_laws.specs.Alike.{pair?, spec_at_lem, spec_provides, spec_requires, spec_specified, spec_standard, spec_version_lem}
 use Rattle.model_laws.specs.Frame.{composed_system, member_composed}
 use Rattle.model_laws.specs.Good.{B1Facts, Good}
@@ -70,8 +70,8 @@ module _ (b : Book) (g : Good b) (c v : ℕ) (q : Option Set) (there : specified
 -- the count of versions
 pub add_few : (S : Specs) (c v : ℕ) (r : Set) → specified S c ≡ true → count versions (has_version S c) < 8 → count versions (has_version (change c (with_version v (some r)) S) c) ≤ 8
 add_few S c v r there h =
-    le_trans (count_mono versions _ (λ w. (w == v) or has_version S c w) (λ w k t. elim (same? w v) [
-      | inl e ↦ or_l _ _ (==-in w v e)
+    le_trans (count_mono versions _ (λ w. (w =? v) or has_version S c w) (λ w k t. elim (same? w v) [
+      | inl e ↦ or_l _ _ (=?-in w v e)
       | inr n ↦ or_r _ _ (sym (spec_version_lem S c v (some r) there c w (λ e. n)) ∙ t)
     ]))
     (omega (arith, count_one_more versions v (has_version S c), h))
@@ -89,7 +89,7 @@ pub not_held : (b : Book) → Good b → (c v : ℕ) → held_by_none b c v ≡ 
 unfolding held_by_none
 not_held b g c v t s w d x e k z =
     let m = member_composed _ s w d x e in let y = composed_system _ s w m in
-    clash {A = ⊥} (has_in _ _ x (ap (member b.systems s w) (sym k) ∙ e) (==-in x v z))
+    clash {A = ⊥} (has_in _ _ x (ap (member b.systems s w) (sym k) ∙ e) (=?-in x v z))
     (not_out _ (all_out _ _ (all_out _ _ t s (g.system_limits.component< s y)) w (g.system_limits.version< s w m)))
 
 -- what a version that is taken out leaves

@@ -5,27 +5,27 @@ use Rattle.std.proofs.Math.Option.{Option, some-injective, none, some}
 use Rattle.model.specs.Lists.{beside, elem, every, first_from, firsts, from, keep, rising, seconds}
 use Rattle.model.specs.Maps.{else_try, is_some, only_if}
 use Rattle.model.specs.Rules.{p, r}
-use Rattle.sets.specs.TestLaws.{==-not, ==-out, ==-same, and_in, and_l, and_r, bool?, clash, count_mono, count_none, if-false, if-true}
+use Rattle.sets.specs.TestLaws.{=?-not, =?-out, =?-same, and_in, and_l, and_r, bool?, clash, count_mono, count_none, if-false, if-true}
 use Rattle.sets.specs.TestLaws.{one_if_le_suc, one_if_up, or-false, or_l, or_out, or_r, same?}
-use Rattle.sets.specs.Tests.{◌==◌, ◌or◌, count, one_if}
+use Rattle.sets.specs.Tests.{◌=?◌, ◌or◌, count, one_if}
 use Rattle.model_laws.specs.MapLaws.{is_some_in, no_some, option?}
 
 pub every-elem : (f : ℕ → Bool) (xs : List ℕ) → every f xs ≡ true → (k : ℕ) → elem k xs ≡ true → f k ≡ true
 unfolding every elem
 every-elem f [] t k e = clash e refl
 every-elem f (x ∷ xs) t k e =
-    elim (or_out _ _ e) [ inl q ↦ rw (==-out _ _ q) (and_l _ _ t) | inr q ↦ every-elem f xs (and_r _ _ t) k q ]
+    elim (or_out _ _ e) [ inl q ↦ rw (=?-out _ _ q) (and_l _ _ t) | inr q ↦ every-elem f xs (and_r _ _ t) k q ]
 
 pub every_listed : (t : ℕ → Bool) (xs : List ℕ) → ((k : ℕ) → elem k xs ≡ true → t k ≡ true) → every t xs ≡ true
 unfolding every elem
 every_listed t [] h = refl
-every_listed t (x ∷ xs) h = and_in _ _ (h x (or_l _ _ (==-same x))) (every_listed t xs (λ k e. h k (or_r _ _ e)))
+every_listed t (x ∷ xs) h = and_in _ _ (h x (or_l _ _ (=?-same x))) (every_listed t xs (λ k e. h k (or_r _ _ e)))
 
 pub beside_elem : {A : Type 0} (xs : List (ℕ × A)) (n : ℕ) → is_some (beside xs n) ≡ elem n (firsts xs)
 unfolding beside firsts elem is_some
 beside_elem [] n = refl
 beside_elem (x ∷ xs) n =
-    elim (bool? (n == x.0)) [
+    elim (bool? (n =? x.0)) [
       | inl e ↦ is_some_in _ (if-true _ _ _ e) ∙ sym (or_l _ _ e)
       | inr e ↦ ap is_some (if-false _ _ _ e) ∙ beside_elem xs n ∙ sym (or-false _ _ e)
     ]
@@ -34,7 +34,7 @@ pub beside_second : {A : Type 0} (t : A → Bool) (xs : List (ℕ × A)) → eve
 unfolding beside seconds every
 beside_second t [] h n a e = clash (is_some_in none e) (unfold is_some in refl)
 beside_second t (x ∷ xs) h n a e =
-    elim (bool? (n == x.0)) [
+    elim (bool? (n =? x.0)) [
       | inl q ↦ subst (λ z. t z ≡ true) (some-injective _ _ (sym (if-true _ _ _ q) ∙ e)) (and_l _ _ h)
       | inr q ↦ beside_second t xs (and_r _ _ h) n a (sym (if-false _ _ _ q) ∙ e)
     ]
@@ -45,17 +45,17 @@ unfolding one_if
 one_if_top true n = le_refl (suc n)
 one_if_top false n = omega arith
 
-pub count_one_more : (n x : ℕ) (g : ℕ → Bool) → count n (λ i. (i == x) or g i) ≤ suc (count n g)
+pub count_one_more : (n x : ℕ) (g : ℕ → Bool) → count n (λ i. (i =? x) or g i) ≤ suc (count n g)
 unfolding count
 count_one_more zero x g = zero-le
 count_one_more (suc n) x g =
     elim (same? n x) [
       | inl e ↦ le_trans (one_if_top _ _) (omega (arith, one_if_up (g n) (count n g), before e))
-      | inr ne ↦ rw (or-false _ (g n) (==-not n x ne)) (one_if_le_suc (g n) _ _ (count_one_more n x g))
+      | inr ne ↦ rw (or-false _ (g n) (=?-not n x ne)) (one_if_le_suc (g n) _ _ (count_one_more n x g))
     ]
   where
-    before : n ≡ x → count n (λ i. (i == x) or g i) ≤ count n g
-    before e = count_mono n _ _ (λ i l t. elim (or_out _ _ t) [ inl q ↦ absurd (omega (arith, ==-out _ _ q)) | inr q ↦ q ])
+    before : n ≡ x → count n (λ i. (i =? x) or g i) ≤ count n g
+    before e = count_mono n _ _ (λ i l t. elim (or_out _ _ t) [ inl q ↦ absurd (omega (arith, =?-out _ _ q)) | inr q ↦ q ])
 
 pub count_list : (n : ℕ) (xs : List ℕ) → count n (λ i. elem i xs) ≤ length xs
 unfolding elem
@@ -66,7 +66,7 @@ count_list n (x ∷ xs) = le_trans (count_one_more n x (λ i. elem i xs)) (omega
 
 keep-elem : (x : Bool) (i n : ℕ) (xs : List ℕ) → elem n (keep x i xs) ≡ true → ((n ≡ i) × (x ≡ true)) ⊎ (elem n xs ≡ true)
 unfolding keep elem
-keep-elem true i n xs t = elim (or_out (n == i) (elem n xs) t) [ inl s ↦ inl (==-out n i s, refl) | inr s ↦ inr s ]
+keep-elem true i n xs t = elim (or_out (n =? i) (elem n xs) t) [ inl s ↦ inl (=?-out n i s, refl) | inr s ↦ inr s ]
 keep-elem false i n xs t = inr t
 
 elem-keep : (x : Bool) (i n : ℕ) (xs : List ℕ) → elem n xs ≡ true → elem n (keep x i xs) ≡ true
@@ -76,7 +76,7 @@ elem-keep false i n xs t = t
 
 keep_head : (x : Bool) (i : ℕ) (xs : List ℕ) → x ≡ true → elem i (keep x i xs) ≡ true
 unfolding keep elem
-keep_head true i xs e = or_l _ _ (==-same i)
+keep_head true i xs e = or_l _ _ (=?-same i)
 keep_head false i xs e = clash e refl
 
 from_out : (k i n : ℕ) (f : ℕ → Bool) → elem n (from k i f) ≡ true → (n < i + k) × (f n ≡ true)

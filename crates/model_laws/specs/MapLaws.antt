@@ -3,7 +3,7 @@ use Rattle.std.specs.Prelude.{Bool, false, true, ◌≢◌, ◌⊎◌, ◌≡◌
 use Rattle.std.proofs.Common.{inl, inr, ap}
 use Rattle.std.proofs.Math.Option.{Option, some-injective, none, some}
 use Rattle.model.specs.Maps.{Map, and_then, has, if_there, is_some, option_map, put}
-use Rattle.sets.specs.TestLaws.{==-not, ==-same, clash, if-false, if-true}
+use Rattle.sets.specs.TestLaws.{=?-not, =?-same, clash, if-false, if-true}
 
 pub has_cong : {A : Type 0} (o : Option A) {f g : A → Bool} → ((x : A) → o ≡ some x → f x ≡ g x) → has o f ≡ has o g
 unfolding has
@@ -77,11 +77,11 @@ option? (some x) = inr (x, refl)
 
 pub put_same : {A : Type 0} (n : ℕ) (x : Option A) (m : Map A) → put n x m n ≡ x
 unfolding put
-put_same n x m = if-true _ _ _ (==-same n)
+put_same n x m = if-true _ _ _ (=?-same n)
 
 pub put_other : {A : Type 0} (n : ℕ) (x : Option A) (m : Map A) (k : ℕ) → k ≢ n → put n x m k ≡ m k
 unfolding put
-put_other n x m k q = if-false _ _ _ (==-not k n q)
+put_other n x m k q = if-false _ _ _ (=?-not k n q)
 
 pub has-map : {A B : Type 0} (g : A → B) (o : Option A) (f : B → Bool) → has (option_map g o) f ≡ has o (λ x. f (g x))
 unfolding has option_map

@@ -9,7 +9,7 @@ use Rattle.model.specs.Limits.{SystemLimits}
 use Rattle.model.specs.PartsList.{is_part, part_in}
 use Rattle.model.specs.Questions.{Question, first_no}
 use Rattle.model.specs.Rules.{B4, needs, needs_to, r, reaches}
-use Rattle.sets.specs.TestLaws.{==-out, and_l, and_r, any_in, any_out, bool?, clash, fails, if-false, if-true, not_in, not_out}
+use Rattle.sets.specs.TestLaws.{=?-out, and_l, and_r, any_in, any_out, bool?, clash, fails, if-false, if-true, not_in, not_out}
 use Rattle.sets.specs.TestLaws.{or_out}
 use Rattle.sets.specs.Tests.{~◌}
 use Rattle.model_laws.specs.Frame.{system_in, system_out}
@@ -72,10 +72,10 @@ made_trans m (member_of q k) = member_of (made_trans m q) k
 
 part_sound : (n : ℕ) (Y : Systems) (c v d w : ℕ) → part_in n Y c v d w ≡ true → MadeFrom Y c v d w
 unfolding part_in
-part_sound zero Y c v d w t = rw (sym (==-out _ _ (and_l _ _ t)), sym (==-out _ _ (and_r _ _ t))) itself
+part_sound zero Y c v d w t = rw (sym (=?-out _ _ (and_l _ _ t)), sym (=?-out _ _ (and_r _ _ t))) itself
 part_sound (suc n) Y c v d w t =
     elim (or_out _ _ t) [
-      | inl e ↦ rw (sym (==-out _ _ (and_l _ _ e)), sym (==-out _ _ (and_r _ _ e))) itself
+      | inl e ↦ rw (sym (=?-out _ _ (and_l _ _ e)), sym (=?-out _ _ (and_r _ _ e))) itself
       | inr a ↦ (let q = any_out _ _ a in let m = has_out _ _ q.2 in made_trans m.1 (part_sound n Y q.0 m.0 d w m.2))
     ]
 

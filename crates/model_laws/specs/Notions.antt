@@ -6,7 +6,7 @@ use Rattle.model.specs.PartsList.{listed, members_listed}
 use Rattle.model.specs.Questions.{Question}
 use Rattle.model.specs.Rules.{r, reaches}
 use Rattle.sets.specs.Sets.{Set, meet}
-use Rattle.sets.specs.Tests.{◌&◌, ◌==◌, ◌or◌, count, ~◌}
+use Rattle.sets.specs.Tests.{◌&◌, ◌=?◌, ◌or◌, count, ~◌}
 
 -- ---- reaching (B4)
 
@@ -17,7 +17,7 @@ pub data Reaches (Y : Systems) : ℕ → ℕ → Type 0 where
 
 -- d is a system that can be met at c or below it
 unfoldable pub is_below : Systems → ℕ → ℕ → Bool
-is_below Y c d = is_system Y d & (c == d or reaches Y c d)
+is_below Y c d = is_system Y d & (c =? d or reaches Y c d)
 
 -- "the number of systems that can still be met below, given by B4": it falls at each step down through usable components (`falls`).
 unfoldable pub systems_below : Systems → ℕ → ℕ
@@ -44,7 +44,7 @@ pub data InPart (Y : Systems) : Set → ℕ → Type 0 where
 
 -- the set that holds c alone
 unfoldable pub only : ℕ → Set
-only c d = d == c
+only c d = d =? c
 
 -- ---- the parts list
 

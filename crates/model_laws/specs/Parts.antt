@@ -12,9 +12,9 @@ use Rattle.model.specs.Lists.{if_found}
 use Rattle.model.specs.Maps.{has}
 use Rattle.model.specs.PartsList.{due, first_pair, is_part, listed, longest_chain, members_listed, next_row, part_in, parts, rows_from}
 use Rattle.model.specs.Rules.{B4, B5, p, r}
-use Rattle.sets.specs.TestLaws.{<?_no, <?_out, ==-out, ==-same, all_in, and_in, and_l, and_r, any_in, any_out, bool?, clash}
+use Rattle.sets.specs.TestLaws.{<?_no, <?_out, =?-out, =?-same, all_in, and_in, and_l, and_r, any_in, any_out, bool?, clash}
 use Rattle.sets.specs.TestLaws.{count_mono, count_strict, fails, not_in, not_out, or_l, or_out, or_r, same?}
-use Rattle.sets.specs.Tests.{◌&◌, ◌<?◌, ◌==◌, ◌or◌, count}
+use Rattle.sets.specs.Tests.{◌&◌, ◌<?◌, ◌=?◌, ◌or◌, count}
 use Rattle.model_laws.specs.Frame.{mem_usable}
 use Rattle.model_laws.specs.Good.{Good, version_specified}
 use Rattle.model_laws.specs.Heights.{Sound, bound, falls, longest_chain_lem, usable_system}
@@ -83,13 +83,13 @@ pairs_strict f g h c v hc hv nf tg = sum_strict components _ _ (λ d. count_mono
 
 -- ---- what is listed
 
-listed_cons : (q : Pair) (l : List Pair) (d w : ℕ) → listed (q ∷ l) d w ≡ ((d == q.0 & w == q.1) or listed l d w)
+listed_cons : (q : Pair) (l : List Pair) (d w : ℕ) → listed (q ∷ l) d w ≡ ((d =? q.0 & w =? q.1) or listed l d w)
 unfolding listed
 listed_cons q l d w = refl
 
 listed_head : (q : Pair) (l : List Pair) → listed (q ∷ l) q.0 q.1 ≡ true
 unfolding listed
-listed_head q l = or_l _ _ (and_in _ _ (==-same _) (==-same _))
+listed_head q l = or_l _ _ (and_in _ _ (=?-same _) (=?-same _))
 
 listed_tail : (q : Pair) (l : List Pair) (d w : ℕ) → listed l d w ≡ true → listed (q ∷ l) d w ≡ true
 unfolding listed
@@ -97,7 +97,7 @@ listed_tail q l d w t = or_r _ _ t
 
 listed_out : (q : Pair) (l : List Pair) (d w : ℕ) → listed (q ∷ l) d w ≡ true → ((d ≡ q.0) × (w ≡ q.1)) ⊎ (listed l d w ≡ true)
 unfolding listed
-listed_out q l d w t = elim (or_out _ _ t) [ inl e ↦ inl (==-out _ _ (and_l _ _ e), ==-out _ _ (and_r _ _ e)) | inr e ↦ inr e ]
+listed_out q l d w t = elim (or_out _ _ t) [ inl e ↦ inl (=?-out _ _ (and_l _ _ e), =?-out _ _ (and_r _ _ e)) | inr e ↦ inr e ]
 
 -- ---- parts
 
@@ -114,17 +114,17 @@ module _ (Y : Systems) where
 
   pub part_self : (n c v : ℕ) → part_in n Y c v c v ≡ true
   unfolding part_in
-  part_self zero c v = and_in _ _ (==-same c) (==-same v)
-  part_self (suc n) c v = or_l _ _ (and_in _ _ (==-same c) (==-same v))
+  part_self zero c v = and_in _ _ (=?-same c) (=?-same v)
+  part_self (suc n) c v = or_l _ _ (and_in _ _ (=?-same c) (=?-same v))
 
   -- a member of a part is a part, in one step more
   part_member : (n c v d w e x : ℕ) → e < components → part_in n Y c v d w ≡ true → member Y d w e ≡ some x → part_in (suc n) Y c v e x ≡ true
   unfolding part_in
   part_member zero c v d w e x l t m =
-      or_r _ _ (any_in _ _ e l (has_in _ _ x (ap₂ (λ (i j : ℕ). member Y i j e) (==-out _ _ (and_l _ _ t)) (==-out _ _ (and_r _ _ t)) ∙ m) (and_in _ _ (==-same e) (==-same x))))
+      or_r _ _ (any_in _ _ e l (has_in _ _ x (ap₂ (λ (i j : ℕ). member Y i j e) (=?-out _ _ (and_l _ _ t)) (=?-out _ _ (and_r _ _ t)) ∙ m) (and_in _ _ (=?-same e) (=?-same x))))
   part_member (suc n) c v d w e x l t m =
       elim (or_out _ _ t) [
-        | inl s ↦ or_r _ _ (any_in _ _ e l (has_in _ _ x (ap₂ (λ (i j : ℕ). member Y i j e) (==-out _ _ (and_l _ _ s)) (==-out _ _ (and_r _ _ s)) ∙ m) (part_self (suc n) e x)))
+        | inl s ↦ or_r _ _ (any_in _ _ e l (has_in _ _ x (ap₂ (λ (i j : ℕ). member Y i j e) (=?-out _ _ (and_l _ _ s)) (=?-out _ _ (and_r _ _ s)) ∙ m) (part_self (suc n) e x)))
         | inr a ↦ (let q = any_out _ _ a in let k = has_out _ _ q.2 in
             or_r _ _ (any_in _ _ q.0 q.1 (has_in _ _ k.0 k.1 (part_member n q.0 k.0 d w e x l k.2 m))))
       ]
@@ -209,10 +209,10 @@ module _ (b : Book) (g : Good b) (c v : ℕ) (has_it : has_version b.specs c v �
 
   part_version : (n i j d w : ℕ) → has_version b.specs i j ≡ true → part_in n b.systems i j d w ≡ true → has_version b.specs d w ≡ true
   unfolding part_in
-  part_version zero i j d w h t = sym (ap₂ (has_version b.specs) (==-out _ _ (and_l _ _ t)) (==-out _ _ (and_r _ _ t))) ∙ h
+  part_version zero i j d w h t = sym (ap₂ (has_version b.specs) (=?-out _ _ (and_l _ _ t)) (=?-out _ _ (and_r _ _ t))) ∙ h
   part_version (suc n) i j d w h t =
       elim (or_out _ _ t) [
-        | inl s ↦ sym (ap₂ (has_version b.specs) (==-out _ _ (and_l _ _ s)) (==-out _ _ (and_r _ _ s))) ∙ h
+        | inl s ↦ sym (ap₂ (has_version b.specs) (=?-out _ _ (and_l _ _ s)) (=?-out _ _ (and_r _ _ s))) ∙ h
         | inr a ↦ (let q = any_out _ _ a in let m = has_out _ _ q.2 in
             part_version n q.0 m.0 d w (mem_usable _ _ system_limits g.b5 i j q.0 m.0 m.1).1 m.2)
       ]

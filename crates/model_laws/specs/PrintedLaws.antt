@@ -13,7 +13,7 @@ use Rattle.model_laws.specs.MapLaws.{has_out, if_there_out}
 use Rattle.model_laws.specs.Printed.{printed_at, rs}
 use Rattle.sets.specs.Sets.{minus, subset}
 use Rattle.sets.specs.TestLaws.{all_in, all_out, and_in, and_l, and_r, any_in, any_out, clash, imp_in, imp_out, not_out}
-use Rattle.sets.specs.Tests.{◌&◌, ◌==◌, ◌or◌, if◌then◌else◌}
+use Rattle.sets.specs.Tests.{◌&◌, ◌=?◌, ◌or◌, if?◌then◌else◌}
 
 module _ (S : Specs) (Y : Systems) (l : SpecLimits S) where
   -- A member is usable, with a version that it has (B5), so what it needs is in rs: nothing is in r and not in rs.
@@ -74,8 +74,8 @@ B9_answers = refl
 -- tank.a with the member loop that is not usable: what it needs is in r and not in rs
 abbrev pub loop_not_usable : System
 loop_not_usable = record {
-  uses = λ c. c == probe;
-  comp = λ v. only_if (v == va) (λ c. if c == loop then some vp else only_if (c == probe) one);
+  uses = λ c. c =? probe;
+  comp = λ v. only_if (v =? va) (λ c. if? c =? loop then some vp else only_if (c =? probe) one);
 }
 
 pub printed_needs_B5 :

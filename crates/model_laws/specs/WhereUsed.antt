@@ -8,7 +8,7 @@ use Rattle.model.specs.Lists.{elem}
 use Rattle.model.specs.Queries.{where_used}
 use Rattle.model.specs.Rules.{p, r}
 use Rattle.sets.specs.Sets.{Set, meet}
-use Rattle.sets.specs.TestLaws.{==-no, ==-not, ==-out, ==-same, and_in, and_l, and_r, any_in, any_out, not_in, not_out}
+use Rattle.sets.specs.TestLaws.{=?-no, =?-not, =?-out, =?-same, and_in, and_l, and_r, any_in, any_out, not_in, not_out}
 use Rattle.model_laws.specs.Heights.{usable_system}
 use Rattle.model_laws.specs.ListLaws.{rising-elem}
 use Rattle.model_laws.specs.Meaning.{reaches_means}
@@ -43,11 +43,11 @@ pub whereused_means : (b : Book) → SystemLimits b.systems
 unfolding where_used only
 whereused_means b l c s = (
   λ t. (let z = ((rising-elem components s _).0 t).1 in
-      (reaches_part b.systems l (==-same c) ((reaches_means b.systems l s c).0 (and_r _ _ z)), ==-no s c (not_out _ (and_l _ _ z)))),
+      (reaches_part b.systems l (=?-same c) ((reaches_means b.systems l s c).0 (and_r _ _ z)), =?-no s c (not_out _ (and_l _ _ z)))),
   λ p. elim (part_reaches b.systems l p.0) [
-    | inl e ↦ absurd (p.1 (==-out s c e))
-    | inr z ↦ (let r : Reaches b.systems s c = subst (λ (k : ℕ). Reaches b.systems s k) (==-out _ c z.1) z.2 in
-        (rising-elem components s _).1 (system< r, and_in _ _ (not_in _ (==-not s c p.1)) ((reaches_means b.systems l s c).1 r)))
+    | inl e ↦ absurd (p.1 (=?-out s c e))
+    | inr z ↦ (let r : Reaches b.systems s c = subst (λ (k : ℕ). Reaches b.systems s k) (=?-out _ c z.1) z.2 in
+        (rising-elem components s _).1 (system< r, and_in _ _ (not_in _ (=?-not s c p.1)) ((reaches_means b.systems l s c).1 r)))
   ],
 )
   where

@@ -7,9 +7,9 @@ use Rattle.model.specs.Lists.{every, first_from, non_empty}
 use Rattle.model.specs.Maps.{else_try, only_if, option_map}
 use Rattle.names.specs.Stored.{answered, lowest_free, name_in, table_of}
 use Rattle.names.specs.UpToLastLaws.{last_at, last_length}
-use Rattle.sets.specs.TestLaws.{==-not, ==-same, and_l, and_r, any_in, clash, fails, if-false, if-true, not_in, not_out, same?}
+use Rattle.sets.specs.TestLaws.{=?-not, =?-same, and_l, and_r, any_in, clash, fails, if-false, if-true, not_in, not_out, same?}
 use Rattle.sets.specs.TestLaws.{≤?_out}
-use Rattle.sets.specs.Tests.{◌==◌, any, ~◌}
+use Rattle.sets.specs.Tests.{◌=?◌, any, ~◌}
 use Rattle.text.specs.Bytes.{same, short}
 use Rattle.text.specs.Language.{Name}
 use Rattle.text.specs.Tables.{Table, name_at, place}
@@ -68,10 +68,10 @@ short_length w s = (there w (and_l _ _ s), ≤?_out _ _ (and_r _ _ s))
     there (c ∷ cs) e = omega arith
 
 -- a text of no byte is empty
-pub empty_is : (w : Name) → (length w == 0) ≡ (~ non_empty w)
+pub empty_is : (w : Name) → (length w =? 0) ≡ (~ non_empty w)
 unfolding non_empty
-empty_is [] = ==-same 0 ∙ sym (not_in _ refl)
-empty_is (c ∷ cs) = ==-not _ _ (λ e. absurd (omega arith)) ∙ sym (fails _ (λ y. clash {A = ⊥} refl (not_out _ y)))
+empty_is [] = =?-same 0 ∙ sym (not_in _ refl)
+empty_is (c ∷ cs) = =?-not _ _ (λ e. absurd (omega arith)) ∙ sym (fails _ (λ y. clash {A = ⊥} refl (not_out _ y)))
 
 -- ---- the loop that looks for a word
 

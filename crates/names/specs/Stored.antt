@@ -5,7 +5,7 @@ use Rattle.std.proofs.Math.Option.{Option, none, some}
 use Rattle.model.specs.Book.{components, facilities, implementations, versions}
 use Rattle.model.specs.Lists.{first_from, non_empty}
 use Rattle.model.specs.Maps.{is_some, only_if}
-use Rattle.sets.specs.Tests.{◌&◌, ◌≤?◌, if◌then◌else◌, ~◌}
+use Rattle.sets.specs.Tests.{◌&◌, ◌≤?◌, if?◌then◌else◌, ~◌}
 use Rattle.text.specs.Language.{Name}
 use Rattle.text.specs.Tables.{Table, Tables, enter, name_at, place}
 use Rattle.names.specs.declared.Found.{Found}
@@ -13,7 +13,7 @@ use Rattle.names.specs.declared.Found.TheVariants.{At, Nothing}
 
 -- the name at place k: none (the place is free) where the length is 0 or more than 32
 unfoldable pub name_in : List ℕ → ℕ → Name
-name_in bytes k = if get_or bytes (k * 33) 0 ≤? 32 then take (get_or bytes (k * 33) 0) (drop (k * 33 + 1) bytes) else []
+name_in bytes k = if? get_or bytes (k * 33) 0 ≤? 32 then take (get_or bytes (k * 33) 0) (drop (k * 33 + 1) bytes) else []
 
 -- a name before a table; a free place before no name is none of the table's
 unfoldable pub before : Name → Table → Table
@@ -50,11 +50,11 @@ answered Nothing = none
 
 -- a word put into a table of n places, if it is new: where it then stands (`none`: "is there a place for each new name? no: 24")
 unfoldable pub place_with : ℕ → Table → Name → Option ℕ
-place_with n t w = if length (enter t (w ∷ [])) ≤? n then place (enter t (w ∷ [])) w else none
+place_with n t w = if? length (enter t (w ∷ [])) ≤? n then place (enter t (w ∷ [])) w else none
 
 -- and the table then: unchanged if there is no place
 unfoldable pub table_with : ℕ → Table → Name → Table
-table_with n t w = if length (enter t (w ∷ [])) ≤? n then enter t (w ∷ []) else t
+table_with n t w = if? length (enter t (w ∷ [])) ≤? n then enter t (w ∷ []) else t
 
 -- the words of a list put in one after another, and whether each found a place
 unfoldable pub table_after : ℕ → Table → List Name → Table

@@ -18,7 +18,7 @@ use Rattle.seqs.specs.SameLaws.{same_length}
 use Rattle.seqs.specs.WrittenLaws.{part_same, written_at, written_before, written_behind, written_length}
 use Rattle.sets.specs.TestLaws.{<?_in, <?_no, <?_out, bool?, clash, fails, if-false, if-true, not_in, or-false, or_r, or_swap}
 use Rattle.sets.specs.TestLaws.{≤?_in, ≤?_out}
-use Rattle.sets.specs.Tests.{◌<?◌, ◌==◌, ◌or◌, ◌≤?◌, ~◌}
+use Rattle.sets.specs.Tests.{◌<?◌, ◌=?◌, ◌or◌, ◌≤?◌, ~◌}
 use Rattle.text.specs.Bytes.{same, short}
 use Rattle.text.specs.Language.{Name}
 use Rattle.text.specs.Tables.{no_names}
@@ -47,14 +47,14 @@ module _ (bytes : List ℕ) (p k : ℕ) (size : length bytes ≡ p * 33) (h : k 
       q ∙ ap (λ (m : ℕ). same w (take m (drop (k * 33 + 1) bytes))) (y ∙ sym z)
       ∙ sym (ap (same w) (if-true _ _ _ (≤?_in _ _ (omega arith))))
 
-  pub free-length : (n : ℕ) → n ≡ get_or bytes (k * 33) 0 → (n == 0 or 32 <? n) ≡ (~ non_empty (name_in bytes k))
+  pub free-length : (n : ℕ) → n ≡ get_or bytes (k * 33) 0 → (n =? 0 or 32 <? n) ≡ (~ non_empty (name_in bytes k))
   unfolding name_in
   free-length n e =
       elim (bool? (get_or bytes (k * 33) 0 ≤? 32)) [
         | inl t ↦ (let l = ≤?_out _ _ t in
-            ap (λ (b : Bool). n == 0 or b) (fails _ (λ y. let u = <?_out _ _ y in absurd (omega arith)))
+            ap (λ (b : Bool). n =? 0 or b) (fails _ (λ y. let u = <?_out _ _ y in absurd (omega arith)))
             ∙ or_swap _ _ ∙ or-false _ _ refl
-            ∙ ap (λ (m : ℕ). m == 0) (e ∙ sym (part_length _ l)) ∙ empty_is _
+            ∙ ap (λ (m : ℕ). m =? 0) (e ∙ sym (part_length _ l)) ∙ empty_is _
             ∙ ap (λ (x : Name). ~ non_empty x) (sym (if-true _ _ _ t)))
         | inr t ↦ or_r _ _ (<?_in _ _ (more (λ y. clash (≤?_in _ _ (subst (λ (m : ℕ). m ≤ 32) e y)) t)))
             ∙ sym (ap (λ (x : Name). ~ non_empty x) (if-false _ _ _ t) ∙ nothing)

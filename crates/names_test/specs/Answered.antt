@@ -4,7 +4,7 @@ use Rattle.book.specs.Plain.{plain_of}
 use Rattle.names.specs.Stored.{tables_of}
 use Rattle.book_rules.specs.Test as test
 use Rattle.seqs.specs.Filled.{filled}
-use Rattle.sets.specs.Tests.{◌&◌, ◌==◌, ◌≤?◌, if◌then◌else◌}
+use Rattle.sets.specs.Tests.{◌&◌, ◌=?◌, ◌≤?◌, if?◌then◌else◌}
 use Rattle.text.specs.Handed.{names_hold}
 use Rattle.text.specs.SameByNames.{text_of}
 use Rattle.text.specs.Session.{State}
@@ -22,15 +22,15 @@ module _ (s n c v f i : List ℕ) where
 
   -- "The first no gives the number": 25, and for "does the result fit the lent slice?" 22
   unfoldable pub text_answer : List ℕ → ℕ
-  text_answer old = if passes_named then (if length (text_of (handed s n c v f i)) ≤? length old then 0 else 22) else 25
+  text_answer old = if? passes_named then (if? length (text_of (handed s n c v f i)) ≤? length old then 0 else 22) else 25
 
   -- how many bytes are written
   unfoldable pub text_len : List ℕ → ℕ
-  text_len old = if text_answer old == 0 then length (text_of (handed s n c v f i)) else 0
+  text_len old = if? text_answer old =? 0 then length (text_of (handed s n c v f i)) else 0
 
   -- the slice then: "A refused call .. writes nothing. An accepted one leaves the slice past its result untouched."
   unfoldable pub slice_with : List ℕ → List ℕ
-  slice_with old = if text_answer old == 0 then filled (text_of (handed s n c v f i)) old else old
+  slice_with old = if? text_answer old =? 0 then filled (text_of (handed s n c v f i)) old else old
 
 -- what the call gives back, and the slice then
 pub record TextCall (s n c v f i old : List ℕ) (r : Text) (new : List ℕ) : Type 0 where

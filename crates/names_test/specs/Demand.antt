@@ -9,7 +9,7 @@ use Rattle.std.proofs.Math.Seq.{take-append_seam}
 use Rattle.book.specs.Plain.{proper}
 use Rattle.book_rules.specs.TestLaws.{passes_plain, passes-proper, plain_passes}
 use Rattle.seqs.specs.Filled.{filled}
-use Rattle.sets.specs.TestLaws.{==-in, and_in, and_l, and_r, bool?, if-false, if-true}
+use Rattle.sets.specs.TestLaws.{=?-in, and_in, and_l, and_r, bool?, if-false, if-true}
 use Rattle.sets.specs.Tests.{◌≤?◌}
 use Rattle.text.specs.Handed.{PassesNamed}
 use Rattle.text.specs.SameByNames.{Same, text_of}
@@ -68,7 +68,7 @@ module _ {s n c v f i old : List ℕ} {r : Text} {new : List ℕ} (k : TextCall 
   pub answered_text : take r.len new ≡ text_of (handed s n c v f i)
   unfolding text_len slice_with filled
   answered_text =
-      let t = ==-in _ 0 (sym k.answer ∙ z) in
+      let t = =?-in _ 0 (sym k.answer ∙ z) in
       ap₂ (λ (l : ℕ) (x : List ℕ). take l x) (k.len ∙ if-true _ _ _ t) (k.slice ∙ if-true _ _ _ t)
       ∙ take-append_seam (text_of (handed s n c v f i)) _
 

@@ -7,7 +7,7 @@ use Rattle.model.specs.Queries.{PARTS, asked}
 use Rattle.model.specs.Questions.{Question, first_no}
 use Rattle.book_rules.specs.Test.{passes}
 use Rattle.seqs.specs.Filled.{filled}
-use Rattle.sets.specs.Tests.{◌≤?◌, if◌then◌else◌}
+use Rattle.sets.specs.Tests.{◌≤?◌, if?◌then◌else◌}
 
 -- A row is one number.
 unfoldable pub row_number : Pair → ℕ
@@ -19,7 +19,7 @@ parts_asked b c v room = asked b (PARTS c v) ++ (22, length (parts b c v) ≤? r
 
 -- "Any call that takes a book: are its numbers below their limits .. no: 25", before all other questions
 unfoldable pub parts_answer : List ℕ → List ℕ → ℕ → ℕ → ℕ → ℕ
-parts_answer s n c v room = if passes s n then first_no (parts_asked (plain_of s n) c v room) else 25
+parts_answer s n c v room = if? passes s n then first_no (parts_asked (plain_of s n) c v room) else 25
 
 -- what the call hands back where it finds the list: how many rows, which stand at the start of the slice, and "a depth .. at least the
 -- longest chain and at most the number of systems plus one"

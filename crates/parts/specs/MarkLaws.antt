@@ -10,8 +10,8 @@ use Rattle.model.specs.Limits.{SystemLimits}
 use Rattle.parts.specs.Marks.{Closed, Marked, Marking, Onto, PartsIn, marked}
 use Rattle.sets.specs.SetLaws.{bit_zero}
 use Rattle.sets.specs.Sets.{Set, bit, with}
-use Rattle.sets.specs.TestLaws.{==-not, ==-out, ==-same, and-false, and_in, and_l, and_r, and-true, clash, iff→≡, or-false, or_l, or_out, or_r, same?}
-use Rattle.sets.specs.Tests.{◌&◌, ◌==◌, ◌or◌}
+use Rattle.sets.specs.TestLaws.{=?-not, =?-out, =?-same, and-false, and_in, and_l, and_r, and-true, clash, iff→≡, or-false, or_l, or_out, or_r, same?}
+use Rattle.sets.specs.Tests.{◌&◌, ◌=?◌, ◌or◌}
 use Rattle.model_laws.specs.Good.{Good}
 use Rattle.model_laws.specs.Heights.{falls}
 use Rattle.model_laws.specs.MapLaws.{is_some_in, is_some_out}
@@ -23,12 +23,12 @@ use Rattle.model_laws.specs.Parts.{good→sound}
 
 -- the table t, with the version v put to the set at c
 module _ (t : List ℕ) (c v x : ℕ) (size : length t ≡ 32) (c< : c < 32) (e : bit x ≡ with (bit (get_or t c 0)) v) where
-  pub mark_one : (d w : ℕ) → marked (set t c x) d w ≡ ((d == c & w == v) or marked t d w)
+  pub mark_one : (d w : ℕ) → marked (set t c x) d w ≡ ((d =? c & w =? v) or marked t d w)
   unfolding marked with
   mark_one d w = elim (same? d c) [
     | inl q ↦ rw q (ap (λ (n : ℕ). bit n w) (get_or-set_same t c x 0 (omega (arith, size))) ∙ ap (λ (a : Set). a w) e
-        ∙ ap (λ (b : Bool). b or bit (get_or t c 0) w) (sym (and-true (c == c) (w == v) (==-same c))))
-    | inr n ↦ ap (λ (n : ℕ). bit n w) (get_or-set_other t c d x 0 n) ∙ sym (or-false _ _ (and-false _ _ (==-not d c n)))
+        ∙ ap (λ (b : Bool). b or bit (get_or t c 0) w) (sym (and-true (c =? c) (w =? v) (=?-same c))))
+    | inr n ↦ ap (λ (n : ℕ). bit n w) (get_or-set_other t c d x 0 n) ∙ sym (or-false _ _ (and-false _ _ (=?-not d c n)))
   ]
 
 -- ---- the walk
@@ -99,17 +99,17 @@ module _ (Y : Systems) (c v : ℕ) where
         | inr q ↦ k.onto.only d w q
       ];
     };
-    itself = one c v ∙ or_l _ _ (and_in _ _ (==-same c) (==-same v));
+    itself = one c v ∙ or_l _ _ (and_in _ _ (=?-same c) (=?-same v));
   }
     where
-      one : (d w : ℕ) → marked (set t₁ c x) d w ≡ ((d == c & w == v) or marked t₁ d w)
+      one : (d w : ℕ) → marked (set t₁ c x) d w ≡ ((d =? c & w =? v) or marked t₁ d w)
       one = mark_one t₁ c v x k.onto.closed.size c< e
 
       more : (d w : ℕ) → marked t₁ d w ≡ true → marked (set t₁ c x) d w ≡ true
       more d w y = one d w ∙ or_r _ _ y
 
       out : (d w : ℕ) → marked (set t₁ c x) d w ≡ true → ((d ≡ c) × (w ≡ v)) ⊎ (marked t₁ d w ≡ true)
-      out d w y = elim (or_out _ _ (sym (one d w) ∙ y)) [ inl q ↦ inl (==-out _ _ (and_l _ _ q), ==-out _ _ (and_r _ _ q)) | inr q ↦ inr q ]
+      out d w y = elim (or_out _ _ (sym (one d w) ∙ y)) [ inl q ↦ inl (=?-out _ _ (and_l _ _ q), =?-out _ _ (and_r _ _ q)) | inr q ↦ inr q ]
 
 -- the member m of the pair c, v, where the walk goes on: fewer systems are below it, and its numbers are below their limits
 module _ (b : Book) (g : Good b) (c v m : ℕ) where

@@ -15,11 +15,11 @@ use Rattle.parts.specs.Rows.{AllRows, RowsTo}
 use Rattle.seqs.specs.Filled.{filled}
 use Rattle.seqs.specs.FilledLaws.{filled-length, filled_none, filled-set}
 use Rattle.sets.specs.Sets.{bit, with}
-use Rattle.sets.specs.Tests.{◌&◌, ◌==◌, ◌or◌}
+use Rattle.sets.specs.Tests.{◌&◌, ◌=?◌, ◌or◌}
 use Rattle.model_laws.specs.Good.{Good}
 use Rattle.model_laws.specs.Parts.{rows_from_end, rows_from_row, rows_from_zero}
 
-listed_more : (q : Pair) (l : List Pair) (d w : ℕ) → listed (q ∷ l) d w ≡ ((d == q.0 & w == q.1) or listed l d w)
+listed_more : (q : Pair) (l : List Pair) (d w : ℕ) → listed (q ∷ l) d w ≡ ((d =? q.0 & w =? q.1) or listed l d w)
 unfolding listed
 listed_more q l d w = refl
 
@@ -73,8 +73,8 @@ module _ (b : Book) (g : Good b) (c v : ℕ) (has_it : has_version b.specs c v �
         back = q ∷ z.back;
         size = length-set t (x / 64) y ∙ z.size;
         table = λ d w. mark_one t (x / 64) (x % 64) y z.size d< ey d w
-            ∙ ap₂ (λ (i j : ℕ). (d == i & w == j) or marked t d w) s.3 s.4
-            ∙ ap (λ (o : Bool). (d == q.0 & w == q.1) or o) (z.table d w) ∙ sym (listed_more q z.back d w);
+            ∙ ap₂ (λ (i j : ℕ). (d =? i & w =? j) or marked t d w) s.3 s.4
+            ∙ ap (λ (o : Bool). (d =? q.0 & w =? q.1) or o) (z.table d w) ∙ sym (listed_more q z.back d w);
         goes_on = append_assoc z.above (q ∷ []) _
             ∙ ap (λ (r : List Pair). z.above ++ r) (sym (rows_from_row (256 - (k + 1)) b c v z.back q (next_is ∙ s.1)))
             ∙ ap (λ (n : ℕ). z.above ++ rows_from n b c v z.back) (sym one_more_lem) ∙ z.goes_on;

@@ -9,19 +9,19 @@ use Rattle.query_replies.specs.Listed.{answer_of}
 use Rattle.query_replies.specs.Replied.{Replied, components_in, facilities_in, numbers_in}
 use Rattle.sets.specs.SetLaws.{bit_ext}
 use Rattle.sets.specs.Sets.{bit}
-use Rattle.sets.specs.TestLaws.{==-in, ==-not, if-false, if-true, iff→≡, same?}
+use Rattle.sets.specs.TestLaws.{=?-in, =?-not, if-false, if-true, iff→≡, same?}
 use Rattle.model_laws.specs.ListLaws.{rising-elem}
 
 module _ (read : ℕ → Reply) (accepted : (x : ℕ) → answer_of (read x) ≡ 0) {r : Reply} where
   pub replied_answer : {a x : ℕ} → Replied read a x r → a ≡ answer_of r
   unfolding answer_of
   replied_answer {a} {x} q = elim (same? a 0) [
-    | inl e ↦ e ∙ sym (accepted x) ∙ ap answer_of (sym (if-true _ _ _ (==-in a 0 e)) ∙ q.is)
-    | inr ne ↦ ap answer_of (sym (if-false _ _ _ (==-not a 0 ne)) ∙ q.is)
+    | inl e ↦ e ∙ sym (accepted x) ∙ ap answer_of (sym (if-true _ _ _ (=?-in a 0 e)) ∙ q.is)
+    | inr ne ↦ ap answer_of (sym (if-false _ _ _ (=?-not a 0 ne)) ∙ q.is)
   ]
 
   pub replied_value : {a x : ℕ} → Replied read a x r → a ≡ 0 → read x ≡ r
-  replied_value {a} q e = sym (if-true _ _ _ (==-in a 0 e)) ∙ q.is
+  replied_value {a} q e = sym (if-true _ _ _ (=?-in a 0 e)) ∙ q.is
 
   -- two results that are the same reply are the same
   decided : {a x b y : ℕ} → (read x ≡ read y → x ≡ y) → Replied read a x r → Replied read b y r → (a ≡ b) × (x ≡ y)

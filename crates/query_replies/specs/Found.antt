@@ -5,7 +5,7 @@ use Rattle.model.specs.Lists.{rising}
 use Rattle.model.specs.Rules.{reaches}
 use Rattle.seqs.specs.Filled.{filled}
 use Rattle.sets.specs.Sets.{Set, bit, subset}
-use Rattle.sets.specs.Tests.{◌&◌, ◌==◌, any, count, ~◌}
+use Rattle.sets.specs.Tests.{◌&◌, ◌=?◌, any, count, ~◌}
 
 -- line 19.1, of c
 unfoldable pub undefined_at : Book → ℕ → Bool
@@ -21,7 +21,7 @@ unused_at b c = is_module b.modules c & ~ used b.systems c
 
 -- lines 21.2 to 21.6, of c and the system s
 unfoldable pub uses_at : Systems → ℕ → ℕ → Bool
-uses_at Y c s = ~ (s == c) & reaches Y s c
+uses_at Y c s = ~ (s =? c) & reaches Y s c
 
 -- ---- CHOICE
 

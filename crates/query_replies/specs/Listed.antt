@@ -3,7 +3,7 @@ use Rattle.std.specs.Prelude.{List, [], map, ◌≡◌, ◌*◌, ◌+◌, ℕ, l
 use Rattle.model.specs.Book.{Pair, versions}
 use Rattle.model.specs.Queries.{Reply, refused, the_components, the_facilities, the_pairs, the_parts, the_version}
 use Rattle.seqs.specs.Filled.{filled}
-use Rattle.sets.specs.Tests.{◌≤?◌, if◌then◌else◌}
+use Rattle.sets.specs.Tests.{◌≤?◌, if?◌then◌else◌}
 
 -- a pair in a row of the slice is one number: component × 64 + version
 unfoldable pub row_of : Pair → ℕ
@@ -11,8 +11,8 @@ row_of p = p.0 * versions + p.1
 
 -- "CHOICE, parts, ..: does the result fit the lent slice? no: 22", the last question, put to a slice of k places
 unfoldable pub fitted : ℕ → Reply → Reply
-fitted k (the_pairs xs) = if length xs ≤? k then the_pairs xs else refused 22
-fitted k (the_parts xs d) = if length xs ≤? k then the_parts xs d else refused 22
+fitted k (the_pairs xs) = if? length xs ≤? k then the_pairs xs else refused 22
+fitted k (the_parts xs d) = if? length xs ≤? k then the_parts xs d else refused 22
 fitted k (refused m) = refused m
 fitted k (the_facilities fs) = the_facilities fs
 fitted k (the_components cs) = the_components cs

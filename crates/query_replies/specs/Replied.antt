@@ -7,15 +7,15 @@ use Rattle.model.specs.Queries.{Query, Reply, refused, reply, the_components, th
 use Rattle.model.specs.Questions.{Question}
 use Rattle.book_rules.specs.Test.{passes}
 use Rattle.sets.specs.Sets.{bit}
-use Rattle.sets.specs.Tests.{◌&◌, ◌<?◌, ◌==◌, if◌then◌else◌}
+use Rattle.sets.specs.Tests.{◌&◌, ◌<?◌, ◌=?◌, if?◌then◌else◌}
 
 -- "Any call that takes a book: are its numbers below their limits .. no: 25", before all other questions
 unfoldable pub replied_to : List ℕ → List ℕ → Query → Reply
-replied_to s n q = if passes s n then reply (plain_of s n) q else refused 25
+replied_to s n q = if? passes s n then reply (plain_of s n) q else refused 25
 
 -- The answer a and the value x of a call are this reply: accepted, what x is read as; refused, the number a, and x is 0.
 pub record Replied (read : ℕ → Reply) (a x : ℕ) (r : Reply) : Type 0 where
-  pub is : (if a == 0 then read x else refused a) ≡ r
+  pub is : (if? a =? 0 then read x else refused a) ≡ r
   pub nothing : (a ≡ 0 → ⊥) → x ≡ 0
 
 -- "Facilities and components rise by number": the numbers of a set of 64 bits

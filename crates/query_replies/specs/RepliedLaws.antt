@@ -11,17 +11,17 @@ use Rattle.model.specs.Queries.{Query, Reply, asked, found, refused, reply}
 use Rattle.model.specs.Questions.{first_no}
 use Rattle.query_replies.specs.Replied.{Replied, of_component, of_pair, replied_to}
 use Rattle.book_rules.specs.Test.{passes}
-use Rattle.sets.specs.TestLaws.{<?_in, <?_no, <?_out, ==-not, ==-same, and-false, and_swap, and-true, bool?, if-false, if-true}
-use Rattle.sets.specs.Tests.{◌&◌, ◌<?◌, ◌==◌}
+use Rattle.sets.specs.TestLaws.{<?_in, <?_no, <?_out, =?-not, =?-same, and-false, and_swap, and-true, bool?, if-false, if-true}
+use Rattle.sets.specs.Tests.{◌&◌, ◌<?◌, ◌=?◌}
 
 -- ---- the reply from the number of the first no
 
 module _ (read : ℕ → Reply) (r : Reply) where
   refuses : (a : ℕ) → (a ≡ 0 → ⊥) → refused a ≡ r → Replied read a 0 r
-  refuses a ne e = record { is = if-false _ _ _ (==-not a 0 ne) ∙ e; nothing = λ _. refl }
+  refuses a ne e = record { is = if-false _ _ _ (=?-not a 0 ne) ∙ e; nothing = λ _. refl }
 
   accepts : (x : ℕ) → read x ≡ r → Replied read 0 x r
-  accepts x e = record { is = if-true _ _ _ (==-same 0) ∙ e; nothing = λ ne. absurd (ne refl) }
+  accepts x e = record { is = if-true _ _ _ (=?-same 0) ∙ e; nothing = λ ne. absurd (ne refl) }
 
 reply_no : (b : Book) (q : Query) (a : ℕ) → first_no (asked b q) ≡ a → (a ≡ 0 → ⊥) → reply b q ≡ refused a
 unfolding reply

@@ -15,8 +15,8 @@ use Rattle.query_replies.specs.Replied.{numbers_in}
 use Rattle.book_cycles.specs.Closure.{Rows, via_reaches}
 use Rattle.sets.specs.LoopLaws.{union_turn}
 use Rattle.sets.specs.Sets.{Set, below, bit, union, union_below}
-use Rattle.sets.specs.TestLaws.{<?_in, <?_out, ==-in, ==-not, all_in, all_out, and-false, and-true, any_in, any_out, clash, fails, iff→≡, not_in, not_out, or-false, or_l}
-use Rattle.sets.specs.Tests.{◌&◌, ◌==◌, ◌or◌, ~◌}
+use Rattle.sets.specs.TestLaws.{<?_in, <?_out, =?-in, =?-not, all_in, all_out, and-false, and-true, any_in, any_out, clash, fails, iff→≡, not_in, not_out, or-false, or_l}
+use Rattle.sets.specs.Tests.{◌&◌, ◌=?◌, ◌or◌, ~◌}
 use Rattle.model_laws.specs.Heights.{usable_system}
 use Rattle.model_laws.specs.RisingLaws.{rising_narrow}
 
@@ -91,7 +91,7 @@ uses_is b c = refl
 module _ (s n : List ℕ) (c d : ℕ) where
   pub uses_itself : d ≡ c → false ≡ uses_at (systems_of s n) c d
   unfolding uses_at
-  uses_itself e = sym (and-false _ _ (fails _ (λ t. clash (==-in d c e) (not_out _ t))))
+  uses_itself e = sym (and-false _ _ (fails _ (λ t. clash (=?-in d c e) (not_out _ t))))
 
   -- row is what d reaches
   pub uses_other : (row : ℕ) (t : List ℕ) {r : Bool} → (d ≡ c → ⊥) → d < 32 → Rows (systems_of s n) 32 t → row ≡ get_or t d 0 → r ≡ bit row c
@@ -100,4 +100,4 @@ module _ (s n : List ℕ) (c d : ℕ) where
   uses_other row t ne d< rows er e =
       e ∙ ap (λ (x : ℕ). bit x c) er ∙ ap (λ (a : Set). a c) (rows.row d d<)
       ∙ via_reaches (systems_of s n) (λ a b u. (system_limit s n a (usable_system _ a b u), usable_limit s n a b u)) d c
-      ∙ sym (and-true _ _ (not_in _ (==-not d c ne)))
+      ∙ sym (and-true _ _ (not_in _ (=?-not d c ne)))

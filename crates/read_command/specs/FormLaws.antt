@@ -12,7 +12,7 @@ use Rattle.names.specs.declared.Found.{Found}
 use Rattle.names.specs.declared.Found.TheVariants as found
 use Rattle.read_tokens.specs.Readers.{Answers}
 use Rattle.sets.specs.TestLaws.{and_l, and_r, clash, fails, if-false}
-use Rattle.sets.specs.Tests.{◌&◌, ◌==◌, ◌or◌, if◌then◌else◌}
+use Rattle.sets.specs.Tests.{◌&◌, ◌=?◌, ◌or◌, if?◌then◌else◌}
 use Rattle.text.specs.Bytes.{Text, among, bytes, keywords, same}
 use Rattle.text.specs.Language.{Read, Reader, Said, by_word, command, command_of, grammar, over, read_as, wrong}
 use Rattle.text.specs.Tables.{name_at, place}
@@ -38,7 +38,7 @@ use Rattle.read_command.specs.declared.Query.{Query}
 
 -- the command whose first word is w, read from the text behind it
 unfoldable worded : Text → Text → Read
-worded w t = if same w (bytes "quit") then over else by_word grammar w t
+worded w t = if? same w (bytes "quit") then over else by_word grammar w t
 
 -- each word of the one list begins the form at its place in the other
 data Begin : List Text → List Form → Type 0 where
@@ -57,7 +57,7 @@ begin_at (w ∷ ws) (f ∷ fs) (and b r) (suc k) l t = begin_at ws fs r k (omega
 
 each_begins : Begin keywords forms
 unfolding keywords forms bytes grammar worded by_word same begun command_reader named_reader query_reader removed version_removed asked_of
-    asked_of_version asked_of_book read_as if◌then◌else◌ ◌&◌ ◌==◌
+    asked_of_version asked_of_book read_as if?◌then◌else◌ ◌&◌ ◌=?◌
 each_begins =
     and (λ t. refl) (and (λ t. refl) (and (λ t. refl) (and (λ t. refl) (and (λ t. refl) (and (λ t. refl) (and (λ t. refl)
     (and (λ t. refl) (and (λ t. refl) (and (λ t. refl) (and (λ t. refl) (and (λ t. refl) (and (λ t. refl) (and (λ t. refl)
@@ -68,11 +68,11 @@ each_begins =
 -- ---- a word that is no keyword
 
 first_words_known : every (λ x. among x.0 keywords) grammar ≡ true
-unfolding every grammar among keywords bytes same ◌&◌ ◌or◌ ◌==◌
+unfolding every grammar among keywords bytes same ◌&◌ ◌or◌ ◌=?◌
 first_words_known = refl
 
 quit_known : among (bytes "quit") keywords ≡ true
-unfolding among keywords bytes same ◌&◌ ◌or◌ ◌==◌
+unfolding among keywords bytes same ◌&◌ ◌or◌ ◌=?◌
 quit_known = refl
 
 -- a word that is among the keywords is not w

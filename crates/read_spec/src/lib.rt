@@ -5,7 +5,7 @@ ghost use Rattle.std.specs.Prelude.{◌≡◌, false, List, ℕ, ◌≤◌, leng
 ghost use Rattle.names.specs.Stored.{table_of, tables_of};
 ghost use Rattle.read_tokens.specs.Requested.{SpecAsked, SpecMade};
 ghost use Rattle.model.specs.Book.{components, facilities, versions};
-ghost use Rattle.sets.specs.Tests.{if◌then◌else◌};
+ghost use Rattle.sets.specs.Tests.{if?◌then◌else◌};
 ghost use Rattle.read_tokens.specs.Steps.{Each};
 ghost use Rattle.read_tokens.specs.Asked.{SpecBody, SpecEnds, SpecStep, SpecWith, spec_body, spec_start, spec_state};
 ghost use Rattle.read_tokens.specs.Entering.{Kept};
@@ -15,7 +15,7 @@ ghost use Rattle.read_tokens.specs.Readers.{Answers};
 use read_tokens::{Facilities, SpecRequest, SpecVersions, Step, Taken};
 
 fn either(b: bool, x: usize, y: usize) -> usize
-    ensures { result ≡ (if b then x else y) }
+    ensures { result ≡ (if? b then x else y) }
 {
     if b { x } else { y }
 }

@@ -13,8 +13,8 @@ use Rattle.command_lists.specs.Gathered.{Gathered, gather, nothing}
 use Rattle.command_lists.specs.Said.{always, is_version_or_none, itself, members_step, version_said}
 use Rattle.command_lists.specs.Views.{composition_view}
 use Rattle.command_lists.specs.declared.Composition.{Composition}
-use Rattle.sets.specs.TestLaws.{==-not, and_in, and_l, and_r, and_swap, and-true, if-false}
-use Rattle.sets.specs.Tests.{◌&◌, ◌==◌, if◌then◌else◌}
+use Rattle.sets.specs.TestLaws.{=?-not, and_in, and_l, and_r, and_swap, and-true, if-false}
+use Rattle.sets.specs.Tests.{◌&◌, ◌=?◌, if?◌then◌else◌}
 use Rattle.text.specs.Bytes.{Text}
 use Rattle.text.specs.Language.{Name, NamedMembers, ◌>>=◌, ahead, compo, give, name, point, when}
 use Rattle.text.specs.Tables.{Table, Tables, given, joined, member_names, member_versions, number}
@@ -73,12 +73,12 @@ module _ (t : Text) (at a : ℕ) (c₀ : Bool) (Q : Name → Type 0) (n : Answer
           })
 
 said_left_out : version_said 65535 ≡ none
-unfolding version_said ◌==◌ if◌then◌else◌
+unfolding version_said ◌=?◌ if?◌then◌else◌
 said_left_out = refl
 
 said_version : (k : ℕ) → k < versions → version_said k ≡ some k
 unfolding version_said
-said_version k h = if-false _ _ _ (==-not k 65535 (λ e. absurd (omega arith)))
+said_version k h = if-false _ _ _ (=?-not k 65535 (λ e. absurd (omega arith)))
 
 module _ (t : Text) (at a b : ℕ) (c₀ d₀ : Bool) (C C' W : List ℕ) (g : held.Members) (j : ℕ) (placed : Bool) (r : held.Members)
     (n : Answers name (Enters components (table_of components C) (table_of components C') j placed) t at c₀ a) (y : notᵇ c₀ ≡ false)

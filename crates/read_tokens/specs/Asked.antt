@@ -8,7 +8,7 @@ use Rattle.command_lists.specs.Gathered.{Gathered, nothing}
 use Rattle.command_lists.specs.Said.{sets_step}
 use Rattle.command_lists.specs.Views.{sets_view}
 use Rattle.sets.specs.Sets.{Set, bit}
-use Rattle.sets.specs.Tests.{◌&◌, ◌or◌, if◌then◌else◌, ~◌}
+use Rattle.sets.specs.Tests.{◌&◌, ◌or◌, if?◌then◌else◌, ~◌}
 use Rattle.text.specs.Language.{Name, Reader, ◌>>=◌, ◌>>◌, give, key, list_of, semicolon, spec_version, standards, the_one, want}
 use Rattle.text.specs.Tables.{Table}
 use Rattle.read_tokens.specs.Entering.{Enters}
@@ -56,7 +56,7 @@ pub record SpecStep (s s' : SpecState) (x : Bool × (Name × List Name)) : Type 
   pub sets : (fs : List ℕ) → each_below facilities fs ≡ true → set_of fs ≡ required → s'.sets ≡ sets_step s.sets (number, fs)
   pub found : s'.found ≡ (s.found or x.0)
   pub twice : s'.twice ≡ (s.twice or (s.found & x.0))
-  pub standard : s'.standard ≡ (if x.0 then number else s.standard)
+  pub standard : s'.standard ≡ (if? x.0 then number else s.standard)
   pub fits : s'.vers_fit ≡ (s.vers_fit & placed)
 
 -- r is g with one version more
@@ -67,7 +67,7 @@ pub record SpecWith (g : SpecVersions) (std : Bool) (number : ℕ) (placed : Boo
       → sets_view r.sets ≡ sets_step (sets_view g.sets) (number, fs)
   pub found : r.found ≡ (g.found or std)
   pub twice : r.twice ≡ (g.twice or (g.found & std))
-  pub standard : r.standard ≡ (if std then number else g.standard)
+  pub standard : r.standard ≡ (if? std then number else g.standard)
   pub vers : r.vers ≡ (g.vers & placed)
   pub facs : r.facs ≡ fit
 

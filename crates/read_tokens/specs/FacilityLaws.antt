@@ -9,7 +9,7 @@ use Rattle.model.specs.Questions.{each_below}
 use Rattle.sets.specs.SetLaws.{bit_zero}
 use Rattle.sets.specs.Sets.{Set, bit, with}
 use Rattle.sets.specs.TestLaws.{<?_in, and_l, and_r}
-use Rattle.sets.specs.Tests.{◌<?◌, ◌==◌, ◌or◌}
+use Rattle.sets.specs.Tests.{◌<?◌, ◌=?◌, ◌or◌}
 use Rattle.text.specs.Language.{Name}
 use Rattle.text.specs.Tables.{Table, Tables, joined, number, numbers}
 use Rattle.read_tokens.specs.Growth.{Grows, Later, Longer, NumberedAll, fold_on}
@@ -75,7 +75,7 @@ or_turn false b c = refl
 with_all : (s : Set) (ks : List ℕ) (i : ℕ) → fold_on with s ks i ≡ (s i or elem i ks)
 unfolding fold_on with elem
 with_all s [] i = sym (or_nothing (s i))
-with_all s (k ∷ ks) i = with_all (with s k) ks i ∙ or_turn (i == k) (s i) (elem i ks)
+with_all s (k ∷ ks) i = with_all (with s k) ks i ∙ or_turn (i =? k) (s i) (elem i ks)
 
 pub with_none : (ks : List ℕ) → fold_on with (bit 0) ks ≡ set_of ks
 unfolding set_of ◌or◌

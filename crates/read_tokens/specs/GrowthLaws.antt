@@ -10,7 +10,7 @@ use Rattle.model.specs.Maps.{is_some, or_else}
 use Rattle.names.specs.Stored.{place_with, table_with}
 use Rattle.sets.specs.TestLaws.{and-false, and_in, and_l, and_no, and_r, and-true, bool?, clash, fails, if-false, if-true, iff→≡}
 use Rattle.sets.specs.TestLaws.{≤?_in, ≤?_out}
-use Rattle.sets.specs.Tests.{◌&◌, ◌≤?◌, if◌then◌else◌}
+use Rattle.sets.specs.Tests.{◌&◌, ◌≤?◌, if?◌then◌else◌}
 use Rattle.text.specs.Language.{Name}
 use Rattle.text.specs.Tables.{Table, Tables, enter, joined, number, place}
 use Rattle.text_laws.specs.Places.{enter_has, enter_longer, place-among, place_longer, place_name, place_there}
@@ -25,7 +25,7 @@ use Rattle.read_tokens.specs.Steps.{Each}
 enter_append : (t : Table) (xs ys : List Name) → enter t (xs ++ ys) ≡ enter (enter t xs) ys
 unfolding enter
 enter_append t [] ys = refl
-enter_append t (x ∷ xs) ys = enter_append (if among x t then t else (t ++ (x ∷ []))) xs ys
+enter_append t (x ∷ xs) ys = enter_append (if? among x t then t else (t ++ (x ∷ []))) xs ys
 
 pub enter_nothing : (t : Table) → enter t [] ≡ t
 unfolding enter

@@ -6,13 +6,13 @@ use Rattle.std.proofs.Math.Path.{ap, subst, sym}
 use native.Mathlib.Omega.{arith}
 use Rattle.std.proofs.Math.ListN.{drop, length}
 use Rattle.model.specs.Maps.{only_if}
-use Rattle.sets.specs.TestLaws.{==-in, ==-out, bool?, clash, fails, if-false, if-true, iff→≡}
+use Rattle.sets.specs.TestLaws.{=?-in, =?-out, bool?, clash, fails, if-false, if-true, iff→≡}
 use Rattle.model_laws.specs.MapLaws.{no_some}
 use Rattle.words.specs.KeywordLaws.{keyword_length}
 use Rattle.words.specs.Keywords.{keyword_count}
 use Rattle.words.specs.WordLaws.{word_ends, word_next, word_none, word_open, word_part}
 use Rattle.text_laws.specs.TextLaws.{same_out, same_sym}
-use Rattle.sets.specs.Tests.{◌==◌}
+use Rattle.sets.specs.Tests.{◌=?◌}
 use Rattle.text.specs.Bytes.{Text, keywords, name_word, same}
 use Rattle.text.specs.Language.{Reader, ahead, ahead_of, imp, name, name_of, quoted_of, want, want_of}
 use Rattle.text.specs.Tables.{name_at}
@@ -41,8 +41,8 @@ unfolding only_if
 answer_only p R t at e true x h r l i = answer_yes p R t at e (record { value = x; is = h; took = r; from = l; inside = i })
 answer_only p R t at e false x h r l i = answer_no p R t at e h
 
-==-turn : (c d : ℕ) → (c == d) ≡ (d == c)
-==-turn c d = iff→≡ _ _ (λ e. ==-in d c (sym (==-out c d e))) (λ e. ==-in c d (sym (==-out d c e)))
+=?-turn : (c d : ℕ) → (c =? d) ≡ (d =? c)
+=?-turn c d = iff→≡ _ _ (λ e. =?-in d c (sym (=?-out c d e))) (λ e. =?-in c d (sym (=?-out d c e)))
 
 -- a reader that takes a byte at least reads on
 pub got_less : {A : Type 0} (p : Reader A) (R : A → Type 0) (t : Text) (at e : ℕ) → Takes 1 p → Got p R t at e → at ≤ length t → at < e
@@ -100,11 +100,11 @@ module _ (t : Text) (at : ℕ) (r : Token) (s : Reads t at (next_token (drop at 
 
   -- the mark c
   pub mark_is : (c d e : ℕ) → r ≡ Mark d e → Answers (want (mark c)) Any t at (eqb d c) e
-  unfolding want want_of next_of is_token ◌==◌
+  unfolding want want_of next_of is_token ◌=?◌
   mark_is c d e q =
       let w = subst (ReadsWithin t at) q s.within in
       let z : next_token (drop at t) ≡ token (mark d) (drop e t) = sym s.is ∙ ap (next_of t) q in
-      answer_only (want (mark c)) Any t at e (eqb d c) tt (ap (want_of (mark c)) z ∙ ap (λ (b : Bool). only_if b (tt, drop e t)) (==-turn c d))
+      answer_only (want (mark c)) Any t at e (eqb d c) tt (ap (want_of (mark c)) z ∙ ap (λ (b : Bool). only_if b (tt, drop e t)) (=?-turn c d))
       (record {}) (omega arith) w.1
 
   no_mark : (c z : ℕ) → want_of (mark c) (next_of t r) ≡ none → Answers (want (mark c)) Any t at false z

@@ -1,7 +1,7 @@
 -- What an adding command of a session's text comes to, the same for all five.
 use Rattle.std.specs.Prelude.{Bool, true, ◌≡◌, ℕ}
 use Rattle.model.specs.Commands.{Command}
-use Rattle.sets.specs.Tests.{if◌then◌else◌}
+use Rattle.sets.specs.Tests.{if?◌then◌else◌}
 use Rattle.session_state.specs.declared.Decision.{Decision}
 use Rattle.text.specs.Language.{Said}
 use Rattle.text.specs.Session.{State, add, carry}
@@ -22,5 +22,5 @@ pub record Adds (t t' : Tables) (room : Bool) (P : Command → Type 0) (x : Said
 -- was read from position `at` on.
 pub record Unasked (there : Bool) (at e : ℕ) (d : Decision) : Type 0 where
   pub there_is : d.there ≡ there
-  pub end_is : d.end ≡ (if there then e else at)
-  pub answer_is : d.answer ≡ (if there then 24 else 0)
+  pub end_is : d.end ≡ (if? there then e else at)
+  pub answer_is : d.answer ≡ (if? there then 24 else 0)

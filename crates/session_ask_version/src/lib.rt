@@ -2,7 +2,7 @@
 #![tactic(auto)]
 
 ghost use Rattle.std.specs.Prelude.{◌≡◌, true, ◌<◌, ◌≤◌, length};
-ghost use Rattle.sets.specs.Tests.{if◌then◌else◌};
+ghost use Rattle.sets.specs.Tests.{if?◌then◌else◌};
 ghost use Rattle.text.specs.Language.{of_pair};
 ghost use Rattle.text.specs.Bytes.{short};
 ghost use Rattle.text.specs.Session.{asked, lines};
@@ -90,7 +90,7 @@ fn put_of_version<'a>(
 // The answer where the version of c has no number.
 fn no_version<'a>(sets: &'a [u64; 576], numbers: &'a [u8; 8768], c: usize) -> usize
     requires { c < 32 }
-    ensures { result ≡ (if specified (plain_of sets.now numbers.now).specs c then 10 else 4) }
+    ensures { result ≡ (if? specified (plain_of sets.now numbers.now).specs c then 10 else 4) }
 {
     if !book::is_specified(sets, numbers, c) {
         return 4;

@@ -2,7 +2,7 @@
 use Rattle.std.specs.Prelude.{Bool, ℕ}
 use Rattle.model.specs.Book.{Book, is_module, is_system}
 use Rattle.model.specs.Commands.{Command, DEL-MOD, DEL-MODVAR, DEL-SPEC, DEL-SYS, DEL-SYSVAR}
-use Rattle.sets.specs.Tests.{if◌then◌else◌}
+use Rattle.sets.specs.Tests.{if?◌then◌else◌}
 use Rattle.read_command.specs.declared.Component.{Component}
 use Rattle.read_command.specs.declared.Component.TheVariants as component
 use Rattle.read_command.specs.declared.Version.{Version}
@@ -43,4 +43,4 @@ pair_answer version.System = 7
 
 -- a version without a number, of a component with the number c: "has it the version? no: 10", after the question of its kind
 unfoldable pub version_answer : Version → Book → ℕ → ℕ
-version_answer k b c = if is_of_kind k b c then 10 else pair_answer k
+version_answer k b c = if? is_of_kind k b c then 10 else pair_answer k

@@ -15,7 +15,7 @@ use Rattle.names.specs.EnterLaws.{found_at, found_nothing, table-length}
 use Rattle.names.specs.Stored.{answered, table_of, tables_of}
 use Rattle.names.specs.declared.Found.{Found}
 use Rattle.names.specs.declared.Found.TheVariants.{At, Nothing}
-use Rattle.sets.specs.Tests.{if◌then◌else◌}
+use Rattle.sets.specs.Tests.{if?◌then◌else◌}
 use Rattle.session_state.specs.Carried.{Decides}
 use Rattle.session_state.specs.CarriedLaws.{answers_as}
 use Rattle.session_state.specs.State.{Ready, state_of}
@@ -100,12 +100,12 @@ version_no : (kind : Version) (b : Book) (c : ℕ) → version_answer kind b c �
 unfolding version_answer
 version_no kind b c e = by (is_of_kind kind b c) e
   where
-    by : (x : Bool) → (if x then 10 else pair_answer kind) ≡ 0 → ⊥
-    by true e = unfold if◌then◌else◌ in omega (arith, e)
-    by false e = unfold if◌then◌else◌ in pair_no kind e
+    by : (x : Bool) → (if? x then 10 else pair_answer kind) ≡ 0 → ⊥
+    by true e = unfold if?◌then◌else◌ in omega (arith, e)
+    by false e = unfold if?◌then◌else◌ in pair_no kind e
 
-refused_if : (x : Bool) (m j : ℕ) → (if x then refused m else refused j) ≡ refused (if x then m else j)
-unfolding if◌then◌else◌
+refused_if : (x : Bool) (m j : ℕ) → (if? x then refused m else refused j) ≡ refused (if? x then m else j)
+unfolding if?◌then◌else◌
 refused_if true m j = refl
 refused_if false m j = refl
 

@@ -24,7 +24,7 @@ use Rattle.names.specs.declared.Found.{Found}
 use Rattle.names.specs.declared.Found.TheVariants.{At, Nothing}
 use Rattle.sets.specs.Sets.{bit}
 use Rattle.sets.specs.TestLaws.{if-false, if-true}
-use Rattle.sets.specs.Tests.{if◌then◌else◌}
+use Rattle.sets.specs.Tests.{if?◌then◌else◌}
 use Rattle.session_state.specs.Carried.{Carried}
 use Rattle.session_state.specs.CarriedLaws.{answers_as}
 use Rattle.session_state.specs.State.{state_of}
@@ -134,21 +134,21 @@ module _ (i : ℕ) (k : OfVersion) where
 
     module _ (d : ℕ) (h : g ≡ At d) (g' : Found) (e' : answered g' ≡ place (table_of versions v) x) where
       -- a version without a number: 10 where the component is specified, else 4
-      pub version_no_number : {p q : Room} {old new : List ℕ} → g' ≡ Nothing → (a : ℕ) → a ≡ (if specified (plain_of s n).specs d then 10 else 4) → Puts (row i (decimal a)) p q old new
+      pub version_no_number : {p q : Room} {old new : List ℕ} → g' ≡ Nothing → (a : ℕ) → a ≡ (if? specified (plain_of s n).specs d then 10 else 4) → Puts (row i (decimal a)) p q old new
           → Carried i now now p q old new (asked_of_version k w x)
       unfolding for_pair
       version_no_number h' a ea z =
-          carried i now (asked_of_version k w x) (if specified (plain_of s n).specs d then refused 10 else refused 4)
+          carried i now (asked_of_version k w x) (if? specified (plain_of s n).specs d then refused 10 else refused 4)
           (carry_is (some d) none (found_at g d _ e h) (found_nothing g' _ e' h')) (keeps (specified (plain_of s n).specs d))
           (puts_as (ap (λ (b : ℕ). row i (decimal b)) ea ∙ shows (specified (plain_of s n).specs d)) z)
         where
-          keeps : (b : Bool) → afterwards now (if b then refused 10 else refused 4) ≡ now
-          keeps true = unfold afterwards if◌then◌else◌ in refl
-          keeps false = unfold afterwards if◌then◌else◌ in refl
+          keeps : (b : Bool) → afterwards now (if? b then refused 10 else refused 4) ≡ now
+          keeps true = unfold afterwards if?◌then◌else◌ in refl
+          keeps false = unfold afterwards if?◌then◌else◌ in refl
 
-          shows : (b : Bool) → row i (decimal (if b then 10 else 4)) ≡ lines i (if b then refused 10 else refused 4)
-          shows true = unfold lines if◌then◌else◌ in refl
-          shows false = unfold lines if◌then◌else◌ in refl
+          shows : (b : Bool) → row i (decimal (if? b then 10 else 4)) ≡ lines i (if? b then refused 10 else refused 4)
+          shows true = unfold lines if?◌then◌else◌ in refl
+          shows false = unfold lines if?◌then◌else◌ in refl
 
       pub version_known : {p q : Room} {old new : List ℕ} → (u : ℕ) → g' ≡ At u → Puts (lines i (asked now (query_of_version k d u))) p q old new
           → Carried i now now p q old new (asked_of_version k w x)
@@ -164,10 +164,10 @@ module _ (i : ℕ) (k : OfVersion) where
 -- ---- the answer where a version has no number
 
 module _ (s n : List ℕ) (c : ℕ) {r : Bool} (e : r ≡ specified (plain_of s n).specs c) where
-  pub answer_4 : not r ≡ true → ◌≡◌ {A = ℕ} 4 (if specified (plain_of s n).specs c then 10 else 4)
+  pub answer_4 : not r ≡ true → ◌≡◌ {A = ℕ} 4 (if? specified (plain_of s n).specs c then 10 else 4)
   answer_4 h = sym (if-false _ _ _ (sym e ∙ not-true r h))
 
-  pub answer_10 : not r ≡ false → ◌≡◌ {A = ℕ} 10 (if specified (plain_of s n).specs c then 10 else 4)
+  pub answer_10 : not r ≡ false → ◌≡◌ {A = ℕ} 10 (if? specified (plain_of s n).specs c then 10 else 4)
   answer_10 h = sym (if-true _ _ _ (sym e ∙ not-false r h))
 
 -- ---- "choice"
@@ -176,9 +176,9 @@ module _ (i : ℕ) (s n c v f m : List ℕ) (known : Bool) (fs : List Name) (all
   abbrev here : State
   here = state_of s n c v f m
 
-  choice_carry : carry here (CHOICE fs) ≡ (if known then asked here (model.CHOICE (numbers (table_of facilities f) fs)) else rows [])
+  choice_carry : carry here (CHOICE fs) ≡ (if? known then asked here (model.CHOICE (numbers (table_of facilities f) fs)) else rows [])
   unfolding carry state_of tables_of
-  choice_carry = ap (λ (b : Bool). if b then asked here (model.CHOICE (numbers (table_of facilities f) fs)) else rows []) (sym all)
+  choice_carry = ap (λ (b : Bool). if? b then asked here (model.CHOICE (numbers (table_of facilities f) fs)) else rows []) (sym all)
 
   -- "and CHOICE of it finds nothing"
   pub choice_nothing : {p q : Room} {old new : List ℕ} → not known ≡ true → Puts (row i (decimal 0)) p q old new → Carried i here here p q old new (CHOICE fs)

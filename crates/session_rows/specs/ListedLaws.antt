@@ -33,7 +33,7 @@ use Rattle.book_rules.specs.TestLaws.{passes_plain}
 use Rattle.seqs.specs.Filled.{filled}
 use Rattle.sets.specs.SetLaws.{bit_limit}
 use Rattle.sets.specs.Sets.{Set, bit, subset}
-use Rattle.sets.specs.TestLaws.{<?_in, <?_out, ==-same, and_in, and_l, and_r, count_le, if-true, or_l, or_r, same?, ≤?_in}
+use Rattle.sets.specs.TestLaws.{<?_in, <?_out, =?-same, and_in, and_l, and_r, count_le, if-true, or_l, or_r, same?, ≤?_in}
 use Rattle.sets.specs.Tests.{◌&◌, ◌<?◌, ◌≤?◌}
 use Rattle.session_state.specs.State.{Ready, state_of}
 use Rattle.text.specs.Bytes.{Text}
@@ -163,7 +163,7 @@ listed_low : (xs : List Pair) → ((d w : ℕ) → listed xs d w ≡ true → w 
 unfolding every listed low
 listed_low [] h = refl
 listed_low (q ∷ xs) h =
-    and_in _ _ (<?_in _ _ (h q.0 q.1 (or_l _ _ (and_in _ _ (==-same q.0) (==-same q.1))))) (listed_low xs (λ d w t. h d w (or_r _ _ t)))
+    and_in _ _ (<?_in _ _ (h q.0 q.1 (or_l _ _ (and_in _ _ (=?-same q.0) (=?-same q.1))))) (listed_low xs (λ d w t. h d w (or_r _ _ t)))
 
 pub parts-room : (s n : List ℕ) (d u : ℕ) (old : List ℕ) (a k depth : ℕ) (new : List ℕ) → parts_call.Listed s n d u old a k depth new → k ≤ length new
 parts-room s n d u old a k depth new z = elim (same? a 0) [

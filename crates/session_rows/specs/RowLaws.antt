@@ -15,7 +15,7 @@ use Rattle.write_bytes.specs.declared.Room.{Room}
 use Rattle.model.specs.Lists.{from, keep, rising}
 use Rattle.query_replies.specs.Replied.{numbers_in}
 use Rattle.sets.specs.Sets.{bit}
-use Rattle.sets.specs.Tests.{if◌then◌else◌}
+use Rattle.sets.specs.Tests.{if?◌then◌else◌}
 use Rattle.text.specs.Bytes.{Text}
 use Rattle.text.specs.Session.{decimal, row}
 use Rattle.text.specs.Tables.{Table, joined, name_at}
@@ -24,12 +24,12 @@ use Rattle.session_rows.specs.Rows.{answer_rows, names_in, pair_in, pairs_in, ro
 -- ---- the numbers of a set
 
 module _ (i : ℕ) (t : Table) (set k : ℕ) {m : Bool} (e : m ≡ bit set k) where
-  pub row_missed : (p : Room) (a : List ℕ) → not m ≡ true → Puts (if bit set k then row i (name_at t k) else []) p p a a
-  row_missed p a h = puts_as (ap (λ (b : Bool). if b then row i (name_at t k) else []) e) (if-not-asked m (row i (name_at t k)) h)
+  pub row_missed : (p : Room) (a : List ℕ) → not m ≡ true → Puts (if? bit set k then row i (name_at t k) else []) p p a a
+  row_missed p a h = puts_as (ap (λ (b : Bool). if? b then row i (name_at t k) else []) e) (if-not-asked m (row i (name_at t k)) h)
 
   pub row_put : {w : Text} {p q : Room} {a b : List ℕ} → not m ≡ false → w ≡ name_at t k → Puts (row i w) p q a b
-      → Puts (if bit set k then row i (name_at t k) else []) p q a b
-  row_put h d f = puts_as (ap (λ (b : Bool). if b then row i (name_at t k) else []) e) (if-asked m h (row_as i d f))
+      → Puts (if? bit set k then row i (name_at t k) else []) p q a b
+  row_put h d f = puts_as (ap (λ (b : Bool). if? b then row i (name_at t k) else []) e) (if-asked m h (row_as i d f))
 
 -- the numbers from k on are to come
 unfoldable pub numbers_from : ℕ → ℕ → List ℕ
@@ -37,8 +37,8 @@ numbers_from set k = from (64 - k) k (bit set)
 
 module _ (i : ℕ) (t : Table) (set : ℕ) where
   first_of : (b : Bool) (x : ℕ) (xs : List ℕ)
-      → rows_of i (map (name_at t) (keep b x xs)) ≡ (if b then row i (name_at t x) else []) ++ rows_of i (map (name_at t) xs)
-  unfolding keep rows_of joined if◌then◌else◌
+      → rows_of i (map (name_at t) (keep b x xs)) ≡ (if? b then row i (name_at t x) else []) ++ rows_of i (map (name_at t) xs)
+  unfolding keep rows_of joined if?◌then◌else◌
   first_of true x xs = refl
   first_of false x xs = refl
 
@@ -53,7 +53,7 @@ module _ (i : ℕ) (t : Table) (set : ℕ) where
   set_start p old = partly_start _ p old
 
   module _ (k : ℕ) {p q : Room} {a b : List ℕ} (f : Partly (rows_of i (names_in t set)) (rows_of i (map (name_at t) (numbers_from set k))) p q a b) where
-    pub set_turn : {r : Room} {c : List ℕ} → k < 64 → Puts (if bit set k then row i (name_at t k) else []) q r b c
+    pub set_turn : {r : Room} {c : List ℕ} → k < 64 → Puts (if? bit set k then row i (name_at t k) else []) q r b c
         → Partly (rows_of i (names_in t set)) (rows_of i (map (name_at t) (numbers_from set (k + 1)))) p r a c
     set_turn h g =
         partly_more (partly_as (ap (λ (l : List ℕ). rows_of i (map (name_at t) l)) (numbers_next k h) ∙ first_of (bit set k) k _) f) g

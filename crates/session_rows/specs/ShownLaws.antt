@@ -17,8 +17,8 @@ use Rattle.query_replies.specs.RepliedLaws.{to_reply}
 use Rattle.book_rules.specs.Test.{passes}
 use Rattle.sets.specs.SetLaws.{bit_zero}
 use Rattle.sets.specs.Sets.{bit}
-use Rattle.sets.specs.TestLaws.{==-not, ==-same, if-false, if-true, same?}
-use Rattle.sets.specs.Tests.{◌==◌, if◌then◌else◌}
+use Rattle.sets.specs.TestLaws.{=?-not, =?-same, if-false, if-true, same?}
+use Rattle.sets.specs.Tests.{◌=?◌, if?◌then◌else◌}
 use Rattle.session_state.specs.Carried.{Carried}
 use Rattle.session_state.specs.State.{Ready, state_of}
 use Rattle.text.specs.Bytes.{Text}
@@ -52,9 +52,9 @@ module _ (i : ℕ) (t : Tables) (read : ℕ → Reply) (ws : ℕ → List Text) 
   replied_rows : (a x : ℕ) (r : Reply) → Replied read a x r → answer_rows i a (ws x) ≡ lines i (shown t r)
   replied_rows a x r z = elim (same? a 0) [
     | inl e ↦ ap (λ (n : ℕ). answer_rows i n (ws x)) e ∙ accepted
-        ∙ ap (λ (y : Reply). lines i (shown t y)) (sym (if-true (a == 0) (read x) (queries.refused a) (ap (λ (n : ℕ). n == 0) e ∙ ==-same 0)) ∙ z.is)
+        ∙ ap (λ (y : Reply). lines i (shown t y)) (sym (if-true (a =? 0) (read x) (queries.refused a) (ap (λ (n : ℕ). n =? 0) e ∙ =?-same 0)) ∙ z.is)
     | inr ne ↦ ap (λ (y : ℕ). answer_rows i a (ws y)) (z.nothing ne) ∙ ap (answer_rows i a) none ∙ answer_alone i a ∙ is_refused
-        ∙ ap (λ (y : Reply). lines i (shown t y)) (sym (if-false (a == 0) (read x) (queries.refused a) (==-not a 0 ne)) ∙ z.is)
+        ∙ ap (λ (y : Reply). lines i (shown t y)) (sym (if-false (a =? 0) (read x) (queries.refused a) (=?-not a 0 ne)) ∙ z.is)
   ]
     where
       accepted : answer_rows i 0 (ws x) ≡ lines i (shown t (read x))
@@ -134,11 +134,11 @@ module _ (i : ℕ) (s n c v f m : List ℕ) (ready : Ready s n c v f m) (q : Que
   is_row : Puts (row i (decimal a)) p p' old mid
   is_row = puts_as (ap (λ (n : ℕ). row i (decimal n)) e) g
 
-  lines_are : (y : Reply) → (if a == 0 then the_version x else queries.refused a) ≡ y → lines i (shown (tables_of c v f m) y) ≡ lines i (asked (state_of s n c v f m) q)
+  lines_are : (y : Reply) → (if? a =? 0 then the_version x else queries.refused a) ≡ y → lines i (shown (tables_of c v f m) y) ≡ lines i (asked (state_of s n c v f m) q)
   lines_are y d = ap (λ (r : Reply). lines i (shown (tables_of c v f m) r)) (sym d ∙ z.is) ∙ ap (lines i) (sym (asked_is i s n c v f m ready q))
 
   pub version_refused : (a ≡ 0 → ⊥) → Puts (lines i (asked (state_of s n c v f m) q)) p p' old mid
-  version_refused ne = puts_as (lines_are (queries.refused a) (if-false _ _ _ (==-not a 0 ne))) (unfold lines shown in is_row)
+  version_refused ne = puts_as (lines_are (queries.refused a) (if-false _ _ _ (=?-not a 0 ne))) (unfold lines shown in is_row)
 
   pub version_shown : a ≡ 0 → (w : Text) → w ≡ name_at (table_of versions v) x → {r : Room} {new : List ℕ} → Puts (row i w) p' r mid new
       → Puts (lines i (asked (state_of s n c v f m) q)) p r old new
@@ -148,7 +148,7 @@ module _ (i : ℕ) (s n c v f m : List ℕ) (ready : Ready s n c v f m) (q : Que
       (answer_put i h (name_at (table_of versions v) x ∷ []) is_row (puts_as one_row (row_as i d k)))
     where
       the_lines : lines i (rows (name_at (table_of versions v) x ∷ [])) ≡ lines i (asked (state_of s n c v f m) q)
-      the_lines = unfold shown in lines_are (the_version x) (if-true (a == 0) (the_version x) (queries.refused a) (ap (λ (n : ℕ). n == 0) h ∙ ==-same 0))
+      the_lines = unfold shown in lines_are (the_version x) (if-true (a =? 0) (the_version x) (queries.refused a) (ap (λ (n : ℕ). n =? 0) h ∙ =?-same 0))
 
       one_row : row i (name_at (table_of versions v) x) ≡ rows_of i (name_at (table_of versions v) x ∷ [])
       one_row = unfold rows_of joined in sym (append-nil (row i (name_at (table_of versions v) x)))

@@ -4,7 +4,7 @@
 
 ghost use Rattle.std.specs.Prelude.{◌≡◌, [], ◌*◌, ◌<◌, ◌≤◌, length};
 ghost use Rattle.sets.specs.Sets.{bit};
-ghost use Rattle.sets.specs.Tests.{if◌then◌else◌};
+ghost use Rattle.sets.specs.Tests.{if?◌then◌else◌};
 ghost use Rattle.text.specs.Session.{row};
 ghost use Rattle.text.specs.Tables.{name_at};
 ghost use Rattle.names.specs.Stored.{table_of};
@@ -33,7 +33,7 @@ fn put_if_member(
 ) -> Room
     requires names_len { length names.now ≡ places * 33 }
     requires k_bound { k < 64 }
-    ensures { Puts (if bit set k then row i (name_at (table_of places names.now) k) else []) room result out.old out.new }
+    ensures { Puts (if? bit set k then row i (name_at (table_of places names.now) k) else []) room result out.old out.new }
 {
     if !sets::member(set, k) {
         return room;

@@ -6,7 +6,7 @@ use Rattle.std.proofs.Math.Path.{ap, fun_ext, sym}
 use Rattle.std.proofs.lemmas.Bool.{not-false, not-true}
 use Rattle.sets.specs.SetLaws.{bit_zero}
 use Rattle.sets.specs.Sets.{Set, below, bit, union, union_below, with}
-use Rattle.sets.specs.TestLaws.{<?_in, <?_out, ==-in, ==-not, all_out, and-false, and_in, and_no, any_in, clash, fails, iff→≡}
+use Rattle.sets.specs.TestLaws.{<?_in, <?_out, =?-in, =?-not, all_out, and-false, and_in, and_no, any_in, clash, fails, iff→≡}
 use Rattle.sets.specs.TestLaws.{or-false, or_l, or_swap, same?}
 use Rattle.sets.specs.Tests.{◌&◌, ◌<?◌, ◌or◌, all, any, count, one_if}
 
@@ -71,8 +71,8 @@ module _ (i s : ℕ) (f : ℕ → Bool) {r : Bool} (es : bit s ≡ below i f) (e
   pub collect_hit : (t : ℕ) → r ≡ true → bit t ≡ with (bit s) i → bit t ≡ below (i + 1) f
   unfolding below with
   collect_hit t e et = et ∙ fun_ext (λ d. elim (same? d i) [
-    | inl q ↦ or_l _ _ (==-in d i q) ∙ sym (and_in _ _ (<?_in _ _ (omega arith)) (ap f q ∙ sym er ∙ e))
-    | inr ne ↦ or-false _ _ (==-not d i ne) ∙ ap (λ (a : Set). a d) es ∙ ap (λ (b : Bool). b & f d) (other d ne)
+    | inl q ↦ or_l _ _ (=?-in d i q) ∙ sym (and_in _ _ (<?_in _ _ (omega arith)) (ap f q ∙ sym er ∙ e))
+    | inr ne ↦ or-false _ _ (=?-not d i ne) ∙ ap (λ (a : Set). a d) es ∙ ap (λ (b : Bool). b & f d) (other d ne)
   ])
 
   pub collect_miss : r ≡ false → bit s ≡ below (i + 1) f

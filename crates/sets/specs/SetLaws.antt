@@ -15,15 +15,15 @@ use Rattle.sets.specs.Sets.{Set, below, bit, disjoint, meet, minus, subset, unio
 use Rattle.sets.specs.TestLaws.{<?_no, <?_out, all_in, all_no, all_out, all_width, and_absorb, and-false, and_in, and_l}
 use Rattle.sets.specs.TestLaws.{and_no, and_r, and_swap, and-true, any_in, any_out, bool?, clash, fails, iff→≡, imp_in}
 use Rattle.sets.specs.TestLaws.{imp_no, imp_out, not_in, not_no, not_out, or_swap}
-use Rattle.sets.specs.Tests.{◌&◌, ◌<?◌, ◌==◌, ◌or◌, count, one_if, ~◌}
+use Rattle.sets.specs.Tests.{◌&◌, ◌<?◌, ◌=?◌, ◌or◌, count, one_if, ~◌}
 
 two_pos : 0 < 2
 two_pos = zero-lt-suc 1
 
 -- ---- one binary digit
 
-digit_or : (p q : ℕ) → p < 2 → q < 2 → (max p q == 1) ≡ (p == 1 or q == 1)
-unfolding ◌==◌ ◌or◌
+digit_or : (p q : ℕ) → p < 2 → q < 2 → (max p q =? 1) ≡ (p =? 1 or q =? 1)
+unfolding ◌=?◌ ◌or◌
 digit_or zero zero hp hq = refl
 digit_or zero (suc zero) hp hq = refl
 digit_or (suc zero) zero hp hq = refl
@@ -32,8 +32,8 @@ digit_or zero (suc (suc q)) hp hq = absurd (omega arith)
 digit_or (suc zero) (suc (suc q)) hp hq = absurd (omega arith)
 digit_or (suc (suc p)) q hp hq = absurd (omega arith)
 
-digit_and : (p q : ℕ) → p < 2 → q < 2 → (min p q == 1) ≡ (p == 1 & q == 1)
-unfolding ◌==◌ ◌&◌
+digit_and : (p q : ℕ) → p < 2 → q < 2 → (min p q =? 1) ≡ (p =? 1 & q =? 1)
+unfolding ◌=?◌ ◌&◌
 digit_and zero zero hp hq = refl
 digit_and zero (suc zero) hp hq = refl
 digit_and (suc zero) zero hp hq = refl
@@ -42,8 +42,8 @@ digit_and zero (suc (suc q)) hp hq = absurd (omega arith)
 digit_and (suc zero) (suc (suc q)) hp hq = absurd (omega arith)
 digit_and (suc (suc p)) q hp hq = absurd (omega arith)
 
-digit_xor : (p q : ℕ) → p < 2 → q < 2 → (differ p q == 1) ≡ not (beq (p == 1) (q == 1))
-unfolding ◌==◌
+digit_xor : (p q : ℕ) → p < 2 → q < 2 → (differ p q =? 1) ≡ not (beq (p =? 1) (q =? 1))
+unfolding ◌=?◌
 digit_xor zero zero hp hq = refl
 digit_xor zero (suc zero) hp hq = refl
 digit_xor (suc zero) zero hp hq = refl
@@ -52,8 +52,8 @@ digit_xor zero (suc (suc q)) hp hq = absurd (omega arith)
 digit_xor (suc zero) (suc (suc q)) hp hq = absurd (omega arith)
 digit_xor (suc (suc p)) q hp hq = absurd (omega arith)
 
-digit_same : (p q : ℕ) → p < 2 → q < 2 → (p == 1) ≡ (q == 1) → p ≡ q
-unfolding ◌==◌
+digit_same : (p q : ℕ) → p < 2 → q < 2 → (p =? 1) ≡ (q =? 1) → p ≡ q
+unfolding ◌=?◌
 digit_same zero zero hp hq e = refl
 digit_same zero (suc zero) hp hq e = clash refl (sym e)
 digit_same (suc zero) zero hp hq e = clash refl e
@@ -83,28 +83,28 @@ xor_odd a b = ap (λ (x : ℕ). x % 2) (xor_step a b) ∙ digits_mod _ (differ_l
 pub bit-or : (a b : ℕ) → bit (bit_or a b) ≡ union (bit a) (bit b)
 unfolding bit union
 bit-or a b = fun_ext (λ f.
-    ap (λ (x : ℕ). x % 2 == 1) (or_shr a b f) ∙ ap (λ (x : ℕ). x == 1) (or_odd (a / 2 ^ f) (b / 2 ^ f))
+    ap (λ (x : ℕ). x % 2 =? 1) (or_shr a b f) ∙ ap (λ (x : ℕ). x =? 1) (or_odd (a / 2 ^ f) (b / 2 ^ f))
     ∙ digit_or (a / 2 ^ f % 2) (b / 2 ^ f % 2) (mod-lt _ two_pos) (mod-lt _ two_pos))
 
 bit-and : (a b f : ℕ) → bit (bit_and a b) f ≡ (bit a f & bit b f)
 unfolding bit
 bit-and a b f =
-    ap (λ (x : ℕ). x % 2 == 1) (and_shr a b f) ∙ ap (λ (x : ℕ). x == 1) (and_odd (a / 2 ^ f) (b / 2 ^ f))
+    ap (λ (x : ℕ). x % 2 =? 1) (and_shr a b f) ∙ ap (λ (x : ℕ). x =? 1) (and_odd (a / 2 ^ f) (b / 2 ^ f))
     ∙ digit_and (a / 2 ^ f % 2) (b / 2 ^ f % 2) (mod-lt _ two_pos) (mod-lt _ two_pos)
 
 bit-xor : (a b f : ℕ) → bit (bit_xor a b) f ≡ not (beq (bit a f) (bit b f))
 unfolding bit
 bit-xor a b f =
-    ap (λ (x : ℕ). x % 2 == 1) (xor_shr a b f) ∙ ap (λ (x : ℕ). x == 1) (xor_odd (a / 2 ^ f) (b / 2 ^ f))
+    ap (λ (x : ℕ). x % 2 =? 1) (xor_shr a b f) ∙ ap (λ (x : ℕ). x =? 1) (xor_odd (a / 2 ^ f) (b / 2 ^ f))
     ∙ digit_xor (a / 2 ^ f % 2) (b / 2 ^ f % 2) (mod-lt _ two_pos) (mod-lt _ two_pos)
 
 pub bit_zero : (f : ℕ) → bit 0 f ≡ false
-unfolding bit ◌==◌
+unfolding bit ◌=?◌
 bit_zero f = rw zero-div refl
 
 bit_suc : (s f : ℕ) → bit s (suc f) ≡ bit (s / 2) f
 unfolding bit
-bit_suc s f = ap (λ (x : ℕ). x % 2 == 1) (ap (λ (k : ℕ). s / 2 ^ k) (sym (one-add f)) ∙ sym (shr-shr s 1 f))
+bit_suc s f = ap (λ (x : ℕ). x % 2 =? 1) (ap (λ (k : ℕ). s / 2 ^ k) (sym (one-add f)) ∙ sym (shr-shr s 1 f))
 
 -- Two numbers below 2 ^ k with the same digits below k are equal.
 pub bit_ext : (k a b : ℕ) → a < 2 ^ k → b < 2 ^ k → ((f : ℕ) → f < k → bit a f ≡ bit b f) → a ≡ b
@@ -119,7 +119,7 @@ bit_ext (suc k) a b ha hb h =
 
 -- A number below 2 ^ k has no digit from k on.
 pub bit_high : (k s f : ℕ) → s < 2 ^ k → k ≤ f → bit s f ≡ false
-unfolding bit ◌==◌
+unfolding bit ◌=?◌
 bit_high k s f h l = rw (div-eq_of_lt (lt_of_lt_of_le h (pow_mono l))) refl
 
 mod_digit : (k s f : ℕ) → f < k → bit (s % 2 ^ k) f ≡ bit s f
@@ -127,7 +127,7 @@ unfolding bit
 mod_digit k s f l =
     let j : ℕ = k - suc f in
     let e : k ≡ (j + 1) + f = omega arith in
-    ap (λ (x : ℕ). x % 2 == 1) (ap (λ (x : ℕ). s % 2 ^ x / 2 ^ f) e ∙ field s (j + 1) f) ∙ ap (λ (x : ℕ). x == 1) (mod-mod-pow (s / 2 ^ f) j 1)
+    ap (λ (x : ℕ). x % 2 =? 1) (ap (λ (x : ℕ). s % 2 ^ x / 2 ^ f) e ∙ field s (j + 1) f) ∙ ap (λ (x : ℕ). x =? 1) (mod-mod-pow (s / 2 ^ f) j 1)
 
 -- The remainder by 2 ^ k keeps the digits below k.
 pub bit_mod : (k s : ℕ) → bit (s % 2 ^ k) ≡ below k (bit s)
@@ -191,15 +191,15 @@ meet-disjoint k a b = iff→≡ _ _
 
 -- ---- one number put in or taken out
 
-bit_pow : (f g : ℕ) → bit (1 * 2 ^ f) g ≡ (g == f)
-unfolding bit ◌==◌
+bit_pow : (f g : ℕ) → bit (1 * 2 ^ f) g ≡ (g =? f)
+unfolding bit ◌=?◌
 bit_pow zero zero = refl
 bit_pow zero (suc g) = bit_suc 1 g ∙ bit_zero g ∙ sym (eqb-suc-zero g)
 bit_pow (suc f) zero = ap (λ (x : ℕ). eqb (x % 2) 1) (div-one (1 * 2 ^ suc f)) ∙ ap (λ (x : ℕ). eqb x 1) (shifted_even 1 f) ∙ sym (eqb-zero-suc f)
 bit_pow (suc f) (suc g) = bit_suc (1 * 2 ^ suc f) g ∙ ap (λ (x : ℕ). bit x g) (shifted_half 1 f) ∙ bit_pow f g ∙ sym (eqb-suc-suc g f)
 
 -- 1 << f, as the code computes it
-bit_one : (f g : ℕ) → f < 64 → bit (1 * 2 ^ f % 2 ^ 64) g ≡ (g == f)
+bit_one : (f g : ℕ) → f < 64 → bit (1 * 2 ^ f % 2 ^ 64) g ≡ (g =? f)
 bit_one f g l = ap (λ (x : ℕ). bit x g) (shl_exact 1 f 64 (lit< tt) (omega arith)) ∙ bit_pow f g
 
 pub bit_with : (s f : ℕ) → f < 64 → bit (bit_or s (1 * 2 ^ f % 2 ^ 64)) ≡ with (bit s) f
@@ -209,7 +209,7 @@ bit_with s f l = bit-or s _ ∙ unfold union in fun_ext (λ g. or_swap _ _ ∙ a
 pub bit_without : (s f : ℕ) → f < 64 → bit (bit_xor (bit_or s (1 * 2 ^ f % 2 ^ 64)) (1 * 2 ^ f % 2 ^ 64)) ≡ without (bit s) f
 unfolding without with
 bit_without s f l = fun_ext (λ g.
-    bit-xor _ _ g ∙ ap₂ (λ (x y : Bool). not (beq x y)) (ap (λ (a : Set). a g) (bit_with s f l)) (bit_one f g l) ∙ ap (λ (x : Bool). not (beq x (g == f))) (or_swap _ _) ∙ or_xor (bit s g) (g == f) ∙ and_swap _ _)
+    bit-xor _ _ g ∙ ap₂ (λ (x y : Bool). not (beq x y)) (ap (λ (a : Set). a g) (bit_with s f l)) (bit_one f g l) ∙ ap (λ (x : Bool). not (beq x (g =? f))) (or_swap _ _) ∙ or_xor (bit s g) (g =? f) ∙ and_swap _ _)
 
 -- ---- the language's count of a number's ones
 
@@ -225,15 +225,15 @@ unfolding count
 count_shift zero p = refl
 count_shift (suc k) p = ap (one_if (p (suc k))) (count_shift k p) ∙ one_if_swap (p (suc k)) (p 0) (count k (λ i. p (suc i)))
 
-digit_count : (r n : ℕ) → r < 2 → r + n ≡ one_if (r == 1) n
-unfolding one_if ◌==◌
+digit_count : (r n : ℕ) → r < 2 → r + n ≡ one_if (r =? 1) n
+unfolding one_if ◌=?◌
 digit_count zero n h = omega arith
 digit_count (suc zero) n h = omega arith
 digit_count (suc (suc r)) n h = absurd (omega arith)
 
-zero_digit : (n : ℕ) → (n % 2 == 1) ≡ bit n 0
+zero_digit : (n : ℕ) → (n % 2 =? 1) ≡ bit n 0
 unfolding bit
-zero_digit n = ap (λ (x : ℕ). x % 2 == 1) (sym (div-one n))
+zero_digit n = ap (λ (x : ℕ). x % 2 =? 1) (sym (div-one n))
 
 -- It is how many numbers the set holds.
 pub ones_count : (k n : ℕ) → n < 2 ^ k → ones n ≡ count k (bit n)

@@ -1,13 +1,13 @@
 -- Sets of numbers; and a set of numbers below a width as the binary digits of one number.
 use Rattle.std.specs.Prelude.{Bool, ◌%◌, ◌/◌, ◌^◌, ℕ}
-use Rattle.sets.specs.Tests.{◌&◌, ◌<?◌, ◌==◌, ◌or◌, ◌⇒◌, all, any, ~◌}
+use Rattle.sets.specs.Tests.{◌&◌, ◌<?◌, ◌=?◌, ◌or◌, ◌⇒◌, all, any, ~◌}
 
 abbrev pub Set : Type 0
 Set = ℕ → Bool
 
 -- The set that the number s stands for: f is in it where the binary digit f of s is 1.
 unfoldable pub bit : ℕ → Set
-bit s f = s / 2 ^ f % 2 == 1
+bit s f = s / 2 ^ f % 2 =? 1
 
 -- the numbers of either set
 unfoldable pub union : Set → Set → Set
@@ -15,11 +15,11 @@ union a b f = a f or b f
 
 -- the set a and the number n
 unfoldable pub with : Set → ℕ → Set
-with a n f = f == n or a f
+with a n f = f =? n or a f
 
 -- the set a but for the number n
 unfoldable pub without : Set → ℕ → Set
-without a n f = ~ (f == n) & a f
+without a n f = ~ (f =? n) & a f
 
 -- the numbers of the set a that are below k
 unfoldable pub below : ℕ → Set → Set

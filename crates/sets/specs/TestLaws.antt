@@ -3,7 +3,7 @@ use Rattle.std.specs.Prelude.{Bool, false, true, ◌≢◌, ◌⊎◌, ◌≡◌
 use Rattle.std.proofs.Common.{true≢false, inl, inr, ◌∙◌, ap, ap₂, subst, sym, le_refl, not-suc-le-zero, arith, eqb→eq, leb→le, le→leb, ltb-false}
 use Rattle.std.proofs.Math.Path.{fun_ext}
 use Rattle.std.proofs.Math.Dec.{eqb_refl}
-use Rattle.sets.specs.Tests.{◌&◌, ◌<?◌, ◌==◌, ◌or◌, ◌⇒◌, ◌⇔◌, ◌≤?◌, all, any, count, if◌then◌else◌, one_if, ~◌}
+use Rattle.sets.specs.Tests.{◌&◌, ◌<?◌, ◌=?◌, ◌or◌, ◌⇒◌, ◌⇔◌, ◌≤?◌, all, any, count, if?◌then◌else◌, one_if, ~◌}
 
 -- ---- tests as facts
 
@@ -145,22 +145,22 @@ and_cong false h = refl
 
 -- ---- comparisons
 
-pub ==-out : (m n : ℕ) → (m == n) ≡ true → m ≡ n
-unfolding ◌==◌
-==-out m n e = eqb→eq m n (≡→T (eqb m n) e)
+pub =?-out : (m n : ℕ) → (m =? n) ≡ true → m ≡ n
+unfolding ◌=?◌
+=?-out m n e = eqb→eq m n (≡→T (eqb m n) e)
 
-pub ==-same : (n : ℕ) → (n == n) ≡ true
-unfolding ◌==◌
-==-same n = T→≡ (eqb n n) (eqb_refl n)
+pub =?-same : (n : ℕ) → (n =? n) ≡ true
+unfolding ◌=?◌
+=?-same n = T→≡ (eqb n n) (eqb_refl n)
 
-pub ==-in : (m n : ℕ) → m ≡ n → (m == n) ≡ true
-==-in m n e = subst (λ (k : ℕ). (m == k) ≡ true) e (==-same m)
+pub =?-in : (m n : ℕ) → m ≡ n → (m =? n) ≡ true
+=?-in m n e = subst (λ (k : ℕ). (m =? k) ≡ true) e (=?-same m)
 
-pub ==-no : (m n : ℕ) → (m == n) ≡ false → m ≢ n
-==-no m n e q = clash (==-in m n q) e
+pub =?-no : (m n : ℕ) → (m =? n) ≡ false → m ≢ n
+=?-no m n e q = clash (=?-in m n q) e
 
-pub ==-not : (m n : ℕ) → m ≢ n → (m == n) ≡ false
-==-not m n q = fails (m == n) (λ e. q (==-out m n e))
+pub =?-not : (m n : ℕ) → m ≢ n → (m =? n) ≡ false
+=?-not m n q = fails (m =? n) (λ e. q (=?-out m n e))
 
 pub <?_out : (m n : ℕ) → (m <? n) ≡ true → m < n
 unfolding ◌<?◌
@@ -186,7 +186,7 @@ unfolding ◌≤?◌
 ≤?_in m n h = T→≡ (leb m n) (le→leb m n h)
 
 pub same? : (m n : ℕ) → (m ≡ n) ⊎ (m ≢ n)
-same? m n = elim (bool? (m == n)) [ inl e ↦ inl (==-out m n e) | inr e ↦ inr (==-no m n e) ]
+same? m n = elim (bool? (m =? n)) [ inl e ↦ inl (=?-out m n e) | inr e ↦ inr (=?-no m n e) ]
 
 -- ---- all and any
 
@@ -249,12 +249,12 @@ unfolding ◌⇒◌
 imp_no true b t = (refl, t)
 imp_no false b t = clash refl t
 
-pub if-true : {A : Type 0} (t : Bool) (x y : A) → t ≡ true → (if t then x else y) ≡ x
-unfolding if◌then◌else◌
+pub if-true : {A : Type 0} (t : Bool) (x y : A) → t ≡ true → (if? t then x else y) ≡ x
+unfolding if?◌then◌else◌
 if-true t x y e = rw e refl
 
-pub if-false : {A : Type 0} (t : Bool) (x y : A) → t ≡ false → (if t then x else y) ≡ y
-unfolding if◌then◌else◌
+pub if-false : {A : Type 0} (t : Bool) (x y : A) → t ≡ false → (if? t then x else y) ≡ y
+unfolding if?◌then◌else◌
 if-false t x y e = rw e refl
 
 -- ---- counts

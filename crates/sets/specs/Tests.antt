@@ -1,13 +1,13 @@
 -- Tests: what is true of a number, of all numbers below a bound, of some of them, of how many. Every one computes.
 use Rattle.std.specs.Prelude.{Bool, ◌&&◌, ◌||◌, cond, false, not, true, suc, zero, ℕ, eqb, leb, ltb}
 
-infix 15 if◌then◌else◌
+infix 15 if?◌then◌else◌
 infixr 20 ◌⇒◌
 infix 25 ◌⇔◌
 infix 40 ~◌
 infixr 35 ◌&◌
 infixr 30 ◌or◌
-infix 50 ◌==◌
+infix 50 ◌=?◌
 infix 50 ◌<?◌
 infix 50 ◌≤?◌
 -- The connectives and comparisons are the libraries' own, but shut: the arguments of a law are then found without being written.
@@ -20,11 +20,11 @@ a & b = a && b
 unfoldable pub ◌or◌ : Bool → Bool → Bool
 a or b = a || b
 
-unfoldable pub if◌then◌else◌ : {A : Type 0} → Bool → A → A → A
-if b then x else y = cond b x y
+unfoldable pub if?◌then◌else◌ : {A : Type 0} → Bool → A → A → A
+if? b then x else y = cond b x y
 
-unfoldable pub ◌==◌ : ℕ → ℕ → Bool
-m == n = eqb m n
+unfoldable pub ◌=?◌ : ℕ → ℕ → Bool
+m =? n = eqb m n
 
 unfoldable pub ◌<?◌ : ℕ → ℕ → Bool
 m <? n = ltb m n

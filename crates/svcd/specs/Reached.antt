@@ -1,6 +1,6 @@
 -- What a session leaves (document 01, "Text and session"): the listing in the slice, and the state as reached.
 use Rattle.std.specs.Prelude.{Bool, List, ◌≡◌, ℕ, length}
-use Rattle.sets.specs.Tests.{if◌then◌else◌}
+use Rattle.sets.specs.Tests.{if?◌then◌else◌}
 use Rattle.text.specs.Bytes.{Text}
 use Rattle.text.specs.LentSlice.{fits_in, slice_after, state_after}
 use Rattle.text.specs.Session.{State, session}
@@ -9,11 +9,11 @@ use Rattle.svcd.specs.declared.SessionEnd.{SessionEnd}
 
 -- "A listing longer than the slice gives 22 and a slice of zeros."
 unfoldable pub answer_of : List ℕ → Text → ℕ
-answer_of slice t = if fits_in slice t then 0 else 22
+answer_of slice t = if? fits_in slice t then 0 else 22
 
 -- how many bytes the listing in the slice has
 unfoldable pub length_of : List ℕ → Text → ℕ
-length_of slice t = if fits_in slice t then length (session t).0 else 0
+length_of slice t = if? fits_in slice t then length (session t).0 else 0
 
 -- what is left of the session of the text t on the slice `old`: the slice `new` and the state s
 pub record Leaves (t : Text) (old new : List ℕ) (fits : Bool) (n : ℕ) (s : State) : Type 0 where

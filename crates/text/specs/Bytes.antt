@@ -2,7 +2,7 @@
 use Rattle.std.specs.Prelude.{Bool, false, true, List, [], ◌∷◌, ℕ, length}
 use Prim.Native.Char.{code}
 use Rattle.model.specs.Lists.{every, non_empty}
-use Rattle.sets.specs.Tests.{◌&◌, ◌==◌, ◌or◌, ◌≤?◌, ~◌}
+use Rattle.sets.specs.Tests.{◌&◌, ◌=?◌, ◌or◌, ◌≤?◌, ~◌}
 use Prim.Native.String.{String, [] as «empty», ◌∷◌ as ◌then◌}
 
 abbrev pub Text : Type 0
@@ -18,7 +18,7 @@ unfoldable pub same : Text → Text → Bool
 same [] [] = true
 same [] (d ∷ ds) = false
 same (c ∷ cs) [] = false
-same (c ∷ cs) (d ∷ ds) = c == d & same cs ds
+same (c ∷ cs) (d ∷ ds) = c =? d & same cs ds
 
 -- the text w stands in the list
 unfoldable pub among : Text → List Text → Bool
@@ -29,7 +29,7 @@ among w (x ∷ xs) = same w x or among w xs
 
 -- "Spaces, tabs, carriage returns and line feeds"
 unfoldable pub white : ℕ → Bool
-white c = c == 32 or c == 9 or c == 13 or c == 10
+white c = c =? 32 or c =? 9 or c =? 13 or c =? 10
 
 -- ASCII letters and digits
 unfoldable pub alnum : ℕ → Bool
@@ -37,15 +37,15 @@ alnum c = (97 ≤? c & c ≤? 122) or (65 ≤? c & c ≤? 90) or (48 ≤? c & c 
 
 -- "letters, digits, "-" or "_""
 unfoldable pub name_byte : ℕ → Bool
-name_byte c = alnum c or c == 45 or c == 95
+name_byte c = alnum c or c =? 45 or c =? 95
 
 -- "letters, digits, ".", "/", "-", "_""
 unfoldable pub impl_byte : ℕ → Bool
-impl_byte c = name_byte c or c == 46 or c == 47
+impl_byte c = name_byte c or c =? 46 or c =? 47
 
 -- the four marks of Fig. 2: ";" "," "." "="
 unfoldable pub is_mark : ℕ → Bool
-is_mark c = c == 59 or c == 44 or c == 46 or c == 61
+is_mark c = c =? 59 or c =? 44 or c =? 46 or c =? 61
 
 -- ---- names
 

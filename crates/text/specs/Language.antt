@@ -4,7 +4,7 @@ use Rattle.std.specs.Prelude.{Bool, false, true, List, [], ◌∷◌, map, suc, 
 use Rattle.std.proofs.Math.Option.{Option, none, some}
 use Prim.Native.String.{String}
 use Rattle.model.specs.Maps.{and_then, only_if}
-use Rattle.sets.specs.Tests.{if◌then◌else◌, ~◌}
+use Rattle.sets.specs.Tests.{if?◌then◌else◌, ~◌}
 use Rattle.text.specs.Bytes.{Text, bytes, name_word, same}
 use Rattle.text.specs.Tokens.{Next, Token, bad, end, is_token, mark, next_token, quoted, token, word}
 
@@ -55,7 +55,7 @@ when true x p t = p t
 when false x p t = some (x, t)
 
 unfoldable pub ahead_of : Token → Text → Next → Option (Bool × Text)
-ahead_of k t (token j rest) = some (if is_token k j then (true, rest) else (false, t))
+ahead_of k t (token j rest) = some (if? is_token k j then (true, rest) else (false, t))
 ahead_of k t end = some (false, t)
 ahead_of k t bad = some (false, t)
 
@@ -162,7 +162,7 @@ spec_version = do
 -- the versions that carry "std"
 unfoldable pub standards : List (Bool × (Name × List Name)) → List Name
 standards [] = []
-standards (x ∷ xs) = if x.0 then x.1.0 ∷ standards xs else standards xs
+standards (x ∷ xs) = if? x.0 then x.1.0 ∷ standards xs else standards xs
 
 -- "Exactly one version of a spec carries "std"."
 unfoldable pub the_one : List Name → Reader Name
@@ -304,10 +304,10 @@ read_as (some x) = said x.0 x.1
 
 unfoldable pub by_word : List (Text × Reader Said) → Text → Text → Read
 by_word [] w t = wrong
-by_word (x ∷ xs) w t = let here = read_as (x.1 t) in let there = by_word xs w t in if same w x.0 then here else there
+by_word (x ∷ xs) w t = let here = read_as (x.1 t) in let there = by_word xs w t in if? same w x.0 then here else there
 
 unfoldable pub command_of : Next → Read
-command_of (token (word w) rest) = if same w (bytes "quit") then over else by_word grammar w rest
+command_of (token (word w) rest) = if? same w (bytes "quit") then over else by_word grammar w rest
 command_of (token (quoted w) rest) = wrong
 command_of (token (mark c) rest) = wrong
 command_of end = over

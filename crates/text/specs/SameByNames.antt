@@ -3,7 +3,7 @@ use Rattle.std.specs.Prelude.{Bool, [], ◌++◌, ◌≡◌, suc, zero, ℕ}
 use Rattle.model.specs.Book.{composed, has_version, implementation, is_module, is_system, member, provides, requires, specified}
 use Rattle.model.specs.Book.{standard, usable}
 use Rattle.model.specs.Maps.{has}
-use Rattle.sets.specs.Tests.{◌&◌, ◌==◌}
+use Rattle.sets.specs.Tests.{◌&◌, ◌=?◌}
 use Rattle.text.specs.Bytes.{Text}
 use Rattle.text.specs.Language.{Name}
 use Rattle.text.specs.Session.{State, decimal, row}
@@ -32,17 +32,17 @@ holds s (IsSystem c) = at s.tables.comps c (is_system s.book.systems)
 holds s (Provides c f) = at s.tables.comps c (λ c. at s.tables.facs f (provides s.book.specs c))
 holds s (Version c v) = at s.tables.comps c (λ c. at s.tables.vers v (has_version s.book.specs c))
 holds s (Standard c v) =
-    at s.tables.comps c (λ c. at s.tables.vers v (λ v. specified s.book.specs c & v == standard s.book.specs c))
+    at s.tables.comps c (λ c. at s.tables.vers v (λ v. specified s.book.specs c & v =? standard s.book.specs c))
 holds s (Usable c d) = at s.tables.comps c (λ c. at s.tables.comps d (usable s.book.systems c))
 holds s (Composed c v) = at s.tables.comps c (λ c. at s.tables.vers v (composed s.book.systems c))
 holds s (Requires c v f) =
     at s.tables.comps c (λ c. at s.tables.vers v (λ v. at s.tables.facs f (requires s.book.specs c v)))
 holds s (Implemented c v i) =
     at s.tables.comps c (λ c. at s.tables.vers v (λ v. at s.tables.impls i (λ i.
-    has (implementation s.book.modules c v) (λ j. i == j))))
+    has (implementation s.book.modules c v) (λ j. i =? j))))
 holds s (Member c v d w) =
     at s.tables.comps c (λ c. at s.tables.vers v (λ v. at s.tables.comps d (λ d. at s.tables.vers w (λ w.
-    has (member s.book.systems c v d) (λ x. w == x)))))
+    has (member s.book.systems c v d) (λ x. w =? x)))))
 
 -- "Two books are the same by names if they agree once each number is replaced by its name"
 abbrev pub Same : State → State → Type 0

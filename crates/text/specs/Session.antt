@@ -7,7 +7,7 @@ use Rattle.model.specs.Lists.{every}
 use Rattle.model.specs.Maps.{is_some}
 use Rattle.model.specs.PlainBook.{answer}
 use Rattle.model.specs.Queries.{Query, Reply, reply, the_components, the_facilities, the_pairs, the_parts, the_version}
-use Rattle.sets.specs.Tests.{◌<?◌, if◌then◌else◌}
+use Rattle.sets.specs.Tests.{◌<?◌, if?◌then◌else◌}
 use Rattle.text.specs.Bytes.{Text, bytes}
 use Rattle.text.specs.Language.{CHOICE, DELMOD, DELMODVAR, DELSPEC, DELSYS, DELSYSVAR, MOD, MODVAR, NEEDS, Name, OUT, PARTS}
 use Rattle.text.specs.Language.{Read, SPEC, STANDARD, SUPPLIES, SYS, SYSVAR, Said, UNDEFINED, UNUSED, WHEREUSED, command}
@@ -52,7 +52,7 @@ told b t k = decided (answer b k) (record { book = after b k; tables = t })
 unfoldable pub add : State → Tables → (Tables → Command) → Result
 add s names k =
     let t = entered s.tables names in
-    if fits t then told s.book t (k t) else refused 24
+    if? fits t then told s.book t (k t) else refused 24
 
 -- "a name that stands in no table has no number: the component or version then doesn't exist": n is the number of that no
 unfoldable pub for_component : ℕ → Option ℕ → (ℕ → Result) → Result
@@ -62,7 +62,7 @@ for_component n (some c) f = f c
 -- the same of a pair: a version without a number gives 10, where the question before it has its yes of the component
 unfoldable pub for_pair : ℕ → (ℕ → Bool) → Option ℕ → Option ℕ → (ℕ → ℕ → Result) → Result
 for_pair n there none v f = refused n
-for_pair n there (some c) none f = if there c then refused 10 else refused n
+for_pair n there (some c) none f = if? there c then refused 10 else refused n
 for_pair n there (some c) (some v) f = f c v
 
 -- ---- queries
@@ -108,7 +108,7 @@ carry s (NEEDS c v) = of_version s 4 (specified s.book.specs) c v (λ c v. asked
 carry s (PARTS c v) = of_version s 4 (specified s.book.specs) c v (λ c v. asked s (queries.PARTS c v))
 -- "and CHOICE of it finds nothing"
 carry s (CHOICE fs) =
-    if every (λ f. is_some (place s.tables.facs f)) fs then asked s
+    if? every (λ f. is_some (place s.tables.facs f)) fs then asked s
     (queries.CHOICE (numbers s.tables.facs fs)) else rows []
 carry s UNDEFINED = asked s queries.UNDEFINED
 carry s UNUSED = asked s queries.UNUSED
@@ -126,7 +126,7 @@ afterwards s (text w) = s
 -- "Numbers are written in base ten." The first argument bounds how many digits there are.
 unfoldable pub digits : ℕ → ℕ → Text
 digits zero n = []
-digits (suc k) n = let more = digits k (n / 10) ++ ((48 + n % 10) ∷ []) in if n <? 10 then (48 + n) ∷ [] else more
+digits (suc k) n = let more = digits k (n / 10) ++ ((48 + n % 10) ∷ []) in if? n <? 10 then (48 + n) ∷ [] else more
 
 -- A number has no more digits than it counts, and 0 has one, so the bound bounds nothing (`decimal_step`).
 unfoldable pub decimal : ℕ → Text

@@ -4,7 +4,7 @@ use Rattle.std.proofs.Math.Option.{Option, none, some}
 use Rattle.model.specs.Book.{components, facilities, implementations, versions}
 use Rattle.model.specs.Commands.{ADD-MOD, ADD-MODVAR, ADD-SPEC, ADD-SYS, ADD-SYSVAR, Command, Members}
 use Rattle.model.specs.Maps.{option_map, or_else}
-use Rattle.sets.specs.Tests.{◌&◌, ◌≤?◌, if◌then◌else◌}
+use Rattle.sets.specs.Tests.{◌&◌, ◌≤?◌, if?◌then◌else◌}
 use Rattle.text.specs.Bytes.{among, same}
 use Rattle.text.specs.Language.{Name, NamedMembers}
 
@@ -29,7 +29,7 @@ name_at t n = get_or t n []
 -- the number of a name is the place that holds it: `none` for "a name that stands in no table"
 unfoldable pub place : Table → Name → Option ℕ
 place [] w = none
-place (x ∷ xs) w = let later = option_map suc (place xs w) in if same w x then some 0 else later
+place (x ∷ xs) w = let later = option_map suc (place xs w) in if? same w x then some 0 else later
 
 -- the number of a name that stands in the table (0 else; nothing then rests on it)
 unfoldable pub number : Table → Name → ℕ
@@ -46,7 +46,7 @@ joined (x ∷ xs) = x ++ joined xs
 -- those behind the last name, since "A place is held until the session ends."
 unfoldable pub enter : Table → List Name → Table
 enter t [] = t
-enter t (w ∷ ws) = enter (if among w t then t else (t ++ (w ∷ []))) ws
+enter t (w ∷ ws) = enter (if? among w t then t else (t ++ (w ∷ []))) ws
 
 unfoldable pub entered : Tables → Tables → Tables
 entered t m = record {

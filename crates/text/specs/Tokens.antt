@@ -1,7 +1,7 @@
 -- The tokens of a text (document 01, "Text and session"): "A token is as long as it can be."
 use Rattle.std.specs.Prelude.{Bool, false, true, [], ◌∷◌, ℕ}
 use Rattle.std.proofs.Math.Option.{Option, none, some}
-use Rattle.sets.specs.Tests.{◌&◌, ◌==◌, ◌or◌, if◌then◌else◌, ~◌}
+use Rattle.sets.specs.Tests.{◌&◌, ◌=?◌, ◌or◌, if?◌then◌else◌, ~◌}
 use Rattle.text.specs.Bytes.{Text, alnum, impl_byte, is_mark, name_byte, same, short, white}
 
 pub data Token : Type 0 where
@@ -22,23 +22,23 @@ pub data Next : Type 0 where
 unfoldable pub skip : Bool → Text → Option Text
 skip true [] = none
 skip false [] = some []
-skip true (c ∷ cs) = skip (~ (c == 125)) cs
-skip false (c ∷ cs) = let on = skip (c == 123) cs in if white c or c == 123 then on else some (c ∷ cs)
+skip true (c ∷ cs) = skip (~ (c =? 125)) cs
+skip false (c ∷ cs) = let on = skip (c =? 123) cs in if? white c or c =? 123 then on else some (c ∷ cs)
 
 -- the longest run of bytes that pass the test, at the start of a text
 unfoldable pub run : (ℕ → Bool) → Text → Text
 run f [] = []
-run f (c ∷ cs) = let more = c ∷ run f cs in if f c then more else []
+run f (c ∷ cs) = let more = c ∷ run f cs in if? f c then more else []
 
 -- and what follows it
 unfoldable pub past : (ℕ → Bool) → Text → Text
 past f [] = []
-past f (c ∷ cs) = let more = past f cs in if f c then more else c ∷ cs
+past f (c ∷ cs) = let more = past f cs in if? f c then more else c ∷ cs
 
 -- the implementation w, where the text goes on with its closing quote
 unfoldable pub closing : Text → Text → Next
 closing w [] = bad
-closing w (c ∷ cs) = if c == 34 & short w then token (quoted w) cs else bad
+closing w (c ∷ cs) = if? c =? 34 & short w then token (quoted w) cs else bad
 
 -- the token at the start of a text
 unfoldable pub token_at : Text → Next
@@ -46,7 +46,7 @@ token_at [] = end
 token_at (c ∷ cs) =
     let named = token (word (c ∷ run name_byte cs)) (past name_byte cs) in
     let string = closing (run impl_byte cs) (past impl_byte cs) in
-    if alnum c then named else if is_mark c then token (mark c) cs else if c == 34 then string else bad
+    if? alnum c then named else if? is_mark c then token (mark c) cs else if? c =? 34 then string else bad
 
 unfoldable pub skipped : Option Text → Next
 skipped none = bad
@@ -64,4 +64,4 @@ is_token (quoted w) (quoted x) = same w x
 is_token (quoted w) (mark c) = false
 is_token (mark c) (word x) = false
 is_token (mark c) (quoted x) = false
-is_token (mark c) (mark d) = c == d
+is_token (mark c) (mark d) = c =? d

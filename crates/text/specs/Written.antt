@@ -6,7 +6,7 @@ use Rattle.model.specs.Book.{is_system, member, provides, requires, specified, s
 use Rattle.model.specs.Lists.{elem, if_found, rising}
 use Rattle.model.specs.Maps.{is_some, or_else}
 use Rattle.sets.specs.Sets.{Set}
-use Rattle.sets.specs.Tests.{◌&◌, ◌<?◌, ◌==◌, ◌or◌, ◌⇒◌, all, if◌then◌else◌, ~◌}
+use Rattle.sets.specs.Tests.{◌&◌, ◌<?◌, ◌=?◌, ◌or◌, ◌⇒◌, all, if?◌then◌else◌, ~◌}
 use Rattle.text.specs.Bytes.{Text, bytes, same}
 use Rattle.text.specs.Language.{CHOICE, DELMOD, DELMODVAR, DELSPEC, DELSYS, DELSYSVAR, MOD, MODVAR, NEEDS, Name, NamedMembers}
 use Rattle.text.specs.Language.{OUT, PARTS, SPEC, STANDARD, SUPPLIES, SYS, SYSVAR, Said, UNDEFINED, UNUSED, WHEREUSED}
@@ -33,7 +33,7 @@ requiring (f ∷ fs) = bytes " requires " ++ commas (f ∷ fs)
 
 -- a version of a spec whose standard version is s
 unfoldable pub spec_piece : Name → Name × List Name → Text
-spec_piece s x = (if same x.0 s then bytes "std " else []) ++ (x.0 ++ requiring x.1)
+spec_piece s x = (if? same x.0 s then bytes "std " else []) ++ (x.0 ++ requiring x.1)
 
 unfoldable pub mod_piece : Name × Name → Text
 mod_piece x = x.0 ++ (bytes " impl \"" ++ (x.1 ++ bytes "\""))
@@ -78,12 +78,12 @@ unfoldable pub before : Name → Name → Bool
 before [] [] = false
 before [] (d ∷ ds) = true
 before (c ∷ cs) [] = false
-before (c ∷ cs) (d ∷ ds) = c <? d or (c == d & before cs ds)
+before (c ∷ cs) (d ∷ ds) = c <? d or (c =? d & before cs ds)
 
 -- the number n put among numbers that rise by name in the table t
 unfoldable pub insert : Table → ℕ → List ℕ → List ℕ
 insert t n [] = n ∷ []
-insert t n (m ∷ ms) = let on = m ∷ insert t n ms in if before (name_at t n) (name_at t m) then n ∷ m ∷ ms else on
+insert t n (m ∷ ms) = let on = m ∷ insert t n ms in if? before (name_at t n) (name_at t m) then n ∷ m ∷ ms else on
 
 unfoldable pub sorted : Table → List ℕ → List ℕ
 sorted t [] = []
@@ -128,7 +128,7 @@ ready Y out s = all components (λ c. usable Y s c ⇒ is_system Y c ⇒ elem c 
 
 unfoldable pub first_of : (ℕ → Bool) → List ℕ → Option ℕ
 first_of test [] = none
-first_of test (n ∷ ns) = let later = first_of test ns in if test n then some n else later
+first_of test (n ∷ ns) = let later = first_of test ns in if? test n then some n else later
 
 -- "The next system is always the lowest name whose usable systems are all out": up to n systems more, of the systems ss by name,
 -- after those of out

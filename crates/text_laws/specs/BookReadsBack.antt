@@ -6,8 +6,8 @@ use Rattle.std.proofs.Math.Path.{ap, refl}
 use Rattle.model.specs.Book.{Book, Modules, Spec, Specs, Systems, composed, has_version, implementation, is_system, member, specified}
 use Rattle.model.specs.Book.{standard}
 use Rattle.model.specs.Maps.{has, is_some, option_map, or_else}
-use Rattle.sets.specs.TestLaws.{==-out, and_cong, and_l, and_r, clash}
-use Rattle.sets.specs.Tests.{◌&◌, ◌==◌}
+use Rattle.sets.specs.TestLaws.{=?-out, and_cong, and_l, and_r, clash}
+use Rattle.sets.specs.Tests.{◌&◌, ◌=?◌}
 use Rattle.text.specs.Bytes.{Text}
 use Rattle.text.specs.Handed.{Named, PassesNamed}
 use Rattle.text.specs.Language.{Name}
@@ -93,9 +93,9 @@ module _ (st : State) (ok : NamedGood st) where
       (λ m. at_kind st ok a_version v _ _ (has_version' b re m) (λ n e. version_of _ e))
       (λ n e. let q = at_out _ v _ e in version_specified S n q.0 q.1)
   same_facts (Standard c v) = at_kind st ok a_component c _ _ (λ m. at_kind st ok a_version v _ _
-      (λ k. ap (λ (x : Bool). x & k == standard (new_specs b re) m) (specified' b re m)
-      ∙ and_cong _ (λ e. ap (λ (x : ℕ). k == x) (standard' m e) ∙ eq_through re.of_v k _ (version_of _ (g.b1.std_in _ e))))
-      (λ n e. version_of (re.old_c m) (ap (has_version S (re.old_c m)) (==-out _ _ (and_r _ _ e)) ∙ g.b1.std_in _ (and_l _ _ e))))
+      (λ k. ap (λ (x : Bool). x & k =? standard (new_specs b re) m) (specified' b re m)
+      ∙ and_cong _ (λ e. ap (λ (x : ℕ). k =? x) (standard' m e) ∙ eq_through re.of_v k _ (version_of _ (g.b1.std_in _ e))))
+      (λ n e. version_of (re.old_c m) (ap (has_version S (re.old_c m)) (=?-out _ _ (and_r _ _ e)) ∙ g.b1.std_in _ (and_l _ _ e))))
       (λ n e. let q = at_out _ v _ e in and_l _ _ q.1)
   same_facts (Usable c d) = at_kind st ok a_component c _ _
       (λ m. at_kind st ok a_component d _ _ (usable' b re m) (λ n e. g.b2.use_spec _ n e))
@@ -109,19 +109,19 @@ module _ (st : State) (ok : NamedGood st) where
       (λ n e. let q = at_out _ v _ e in let r = at_out _ f _ q.1 in
       version_specified S n q.0 (requires_version S n q.0 r.0 r.1))
   same_facts (Implemented c v i) = at_kind st ok a_component c _ _ (λ m. at_kind st ok a_version v _ _
-      (λ k. at_kind st ok an_implementation i _ _ (λ j. ap (λ (o : Option ℕ). has o (λ z. j == z)) (implementation' b re m k)
+      (λ k. at_kind st ok an_implementation i _ _ (λ j. ap (λ (o : Option ℕ). has o (λ z. j =? z)) (implementation' b re m k)
       ∙ has-map _ _ _
       ∙ has_cong _ (λ z e. eq_through re.of_i j z (implementation_of _ _ e)))
-      (λ n e. let q = has_out _ _ e in implementation_of _ _ (q.1 ∙ ap some (sym (==-out _ _ q.2)))))
+      (λ n e. let q = has_out _ _ e in implementation_of _ _ (q.1 ∙ ap some (sym (=?-out _ _ q.2)))))
       (λ n e. let q = at_out _ i _ e in let r = has_out _ _ q.1 in version_of _ (impl_version _ n r.0 r.1)))
       (λ n e. let q = at_out _ v _ e in let p = at_out _ i _ q.1 in let r = has_out _ _ p.1 in
       g.b2.mod_spec n (implementation_module M n q.0 r.0 r.1))
   same_facts (Member c v d w) = at_kind st ok a_component c _ _
       (λ m. at_kind st ok a_version v _ _ (λ k. at_kind st ok a_component d _ _
-      (λ j. at_kind st ok a_version w _ _ (λ x. ap (λ (o : Option ℕ). has o (λ z. x == z)) (member' b re m k j) ∙ has-map _ _ _
+      (λ j. at_kind st ok a_version w _ _ (λ x. ap (λ (o : Option ℕ). has o (λ z. x =? z)) (member' b re m k j) ∙ has-map _ _ _
       ∙ has_cong _ (λ z e. eq_through re.of_v x z (version_of _ (mem_usable S Y g.system_limits g.b5 _ _ _ z e).1)))
       (λ n e. let q = has_out _ _ e in
-      version_of _ (mem_usable S Y g.system_limits g.b5 _ _ _ n (q.1 ∙ ap some (sym (==-out _ _ q.2)))).1))
+      version_of _ (mem_usable S Y g.system_limits g.b5 _ _ _ n (q.1 ∙ ap some (sym (=?-out _ _ q.2)))).1))
       (λ n e. let q = at_out _ w _ e in let r = has_out _ _ q.1 in member_spec _ _ n r.0 r.1))
       (λ n e. let p = at_out _ d _ e in let q = at_out _ w _ p.1 in let r = has_out _ _ q.1 in
       let k = member_composed Y _ n p.0 r.0 r.1 in version_of _ (sym (g.b2.sys_covers _ n (sys_of_lem _ n k)) ∙ k)))

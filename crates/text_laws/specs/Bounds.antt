@@ -4,7 +4,7 @@ use Rattle.std.proofs.Math.Option.{Option, none, some}
 use Rattle.std.proofs.Common.{◌∙◌, ap, sym, le_refl, arith}
 use Rattle.model.specs.Maps.{and_then}
 use Rattle.sets.specs.TestLaws.{<?_no}
-use Rattle.sets.specs.Tests.{◌<?◌, if◌then◌else◌}
+use Rattle.sets.specs.Tests.{◌<?◌, if?◌then◌else◌}
 use Rattle.text.specs.Bytes.{Text}
 use Rattle.text.specs.Language.{Read, Reader, ◌>>=◌, ahead, command, command_of, give, list_in, list_of, over, said, when, wrong}
 use Rattle.text.specs.Session.{State, afterwards, carry, decimal, digits, lines, on_read, session_from}
@@ -92,12 +92,12 @@ session_step_lem i s t =
     ∙ read_same _ _ i s t (command t) (command_left t)
     (λ s' u l. session_enough (length t) (length u) (suc i) s' u (omega arith) (le_refl _))
 
-else_cong : {A : Type 0} (t : Bool) (x : A) {y y' : A} → (t ≡ false → y ≡ y') → (if t then x else y) ≡ (if t then x else y')
-unfolding if◌then◌else◌
+else_cong : {A : Type 0} (t : Bool) (x : A) {y y' : A} → (t ≡ false → y ≡ y') → (if? t then x else y) ≡ (if? t then x else y')
+unfolding if?◌then◌else◌
 else_cong true x h = refl
 else_cong false x h = h refl
 
-digits_step : (k n : ℕ) → digits (suc k) n ≡ (if n <? 10 then (48 + n) ∷ [] else digits k (n / 10) ++ ((48 + n % 10) ∷ []))
+digits_step : (k n : ℕ) → digits (suc k) n ≡ (if? n <? 10 then (48 + n) ∷ [] else digits k (n / 10) ++ ((48 + n % 10) ∷ []))
 unfolding digits
 digits_step k n = refl
 
@@ -109,7 +109,7 @@ digits_enough (suc k) (suc m) n a b =
     ap (λ (w : Text). w ++ ((48 + n % 10) ∷ [])) (digits_enough k m (n / 10) (omega arith) (omega arith)))
     ∙ sym (digits_step m n)
 
-pub decimal_step : (n : ℕ) → decimal n ≡ (if n <? 10 then (48 + n) ∷ [] else decimal (n / 10) ++ ((48 + n % 10) ∷ []))
+pub decimal_step : (n : ℕ) → decimal n ≡ (if? n <? 10 then (48 + n) ∷ [] else decimal (n / 10) ++ ((48 + n % 10) ∷ []))
 unfolding decimal
 decimal_step n =
     digits_step n n ∙ else_cong (n <? 10) _ (λ e. let h = <?_no n 10 e in

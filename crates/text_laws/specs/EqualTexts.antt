@@ -12,7 +12,7 @@ use Rattle.model.specs.Book.{Modules, Specs, Systems, components, composed, faci
 use Rattle.model.specs.Book.{is_module, is_system, member, provides, requires, specified, usable, versions}
 use Rattle.model.specs.Lists.{elem, non_empty}
 use Rattle.model.specs.Maps.{is_some, or_else}
-use Rattle.sets.specs.TestLaws.{==-same, bool?, if-false, if-true, iff→≡, or_l, or_r}
+use Rattle.sets.specs.TestLaws.{=?-same, bool?, if-false, if-true, iff→≡, or_l, or_r}
 use Rattle.sets.specs.Tests.{◌&◌, ~◌}
 use Rattle.text.specs.Bytes.{Text}
 use Rattle.text.specs.Handed.{PassesNamed}
@@ -46,9 +46,9 @@ first_same N N' test test' [] (y ∷ ys) e h = absurd (let z : ◌≡◌ {A = �
 first_same N N' test test' (x ∷ xs) [] e h = absurd (let z : ◌≡◌ {A = ℕ} (suc (length (map N xs))) 0 = ap length e in omega arith)
 first_same N N' test test' (x ∷ xs) (y ∷ ys) e h =
     let a : N x ≡ N' y = cc in let b : map N xs ≡ map N' ys = cc in
-    let t = h x y (or_l _ _ (==-same x)) (or_l _ _ (==-same y)) a in
+    let t = h x y (or_l _ _ (=?-same x)) (or_l _ _ (=?-same y)) a in
     elim (bool? (test x)) [
-      | inl q ↦ inr (x, y, if-true _ _ _ q, if-true _ _ _ (sym t ∙ q), a, or_l _ _ (==-same x), or_l _ _ (==-same y))
+      | inl q ↦ inr (x, y, if-true _ _ _ q, if-true _ _ _ (sym t ∙ q), a, or_l _ _ (=?-same x), or_l _ _ (=?-same y))
       | inr q ↦ elim (first_same N N' test test' xs ys b (λ n n' i j w. h n n' (or_r _ _ i) (or_r _ _ j) w)) [
         | inl z ↦ inl (if-false _ _ _ q ∙ z.0, if-false _ _ _ (sym t ∙ q) ∙ z.1)
         | inr z ↦ inr (

@@ -3,7 +3,7 @@
 use Rattle.std.specs.Prelude.{Bool, false, true, [], ◌++◌, ◌∷◌, ◌≡◌, refl, ◌+◌, ◌≤◌, suc, ℕ, length}
 use Rattle.std.proofs.Common.{append_assoc, ◌∙◌, ap, sym, zero-le, arith, length-append}
 use Rattle.std.proofs.Math.Option.{Option, none, some}
-use Rattle.sets.specs.Tests.{◌&◌, ◌==◌, ◌or◌, ~◌}
+use Rattle.sets.specs.Tests.{◌&◌, ◌=?◌, ◌or◌, ~◌}
 use Rattle.text.specs.Bytes.{Text, alnum, impl_byte, is_mark, name_byte, short, white}
 use Rattle.text.specs.Tokens.{Next, bad, closing, end, next_token, past, run, skip, skipped, token, token_at}
 use Rattle.text_laws.specs.TextLaws.{by_test}
@@ -66,9 +66,9 @@ skip_left : (b : Bool) (t : Text) → LeftT t (skip b t)
 unfolding skip
 skip_left true [] = tt
 skip_left false [] = left_all []
-skip_left true (c ∷ cs) = more_t c cs (skip (~ (c == 125)) cs) (skip_left (~ (c == 125)) cs)
-skip_left false (c ∷ cs) = by_test (LeftT (c ∷ cs)) (white c or c == 123) _ _
-    (λ e. more_t c cs (skip (c == 123) cs) (skip_left (c == 123) cs)) (left_all (c ∷ cs))
+skip_left true (c ∷ cs) = more_t c cs (skip (~ (c =? 125)) cs) (skip_left (~ (c =? 125)) cs)
+skip_left false (c ∷ cs) = by_test (LeftT (c ∷ cs)) (white c or c =? 123) _ _
+    (λ e. more_t c cs (skip (c =? 123) cs) (skip_left (c =? 123) cs)) (left_all (c ∷ cs))
 
 past_left : (f : ℕ → Bool) (t : Text) → Left 0 t (past f t)
 unfolding past
@@ -79,7 +79,7 @@ past_left f (c ∷ cs) = by_test (λ (u : Text). Left 0 (c ∷ cs) u) (f c) _ _ 
 closing_left : (c : ℕ) (t w r : Text) → Left 0 t r → LeftN (c ∷ t) (closing w r)
 unfolding closing
 closing_left c t w [] l = tt
-closing_left c t w (d ∷ ds) l = by_test (LeftN (c ∷ t)) (d == 34 & short w) _ _
+closing_left c t w (d ∷ ds) l = by_test (LeftN (c ∷ t)) (d =? 34 & short w) _ _
     (λ e. left_then (left_more {c = c} l) (left_less (left_more {c = d} (left_all ds)))) tt
 
 token_left : (t : Text) → LeftN t (token_at t)
@@ -88,7 +88,7 @@ token_left [] = tt
 token_left (c ∷ cs) =
     by_test (LeftN (c ∷ cs)) (alnum c) _ _ (λ e. left_more (past_left name_byte cs))
     (by_test (LeftN (c ∷ cs)) (is_mark c) _ _ (λ e. left_more (left_all cs))
-    (by_test (LeftN (c ∷ cs)) (c == 34) _ _
+    (by_test (LeftN (c ∷ cs)) (c =? 34) _ _
     (λ e. closing_left c cs (run impl_byte cs) (past impl_byte cs) (past_left impl_byte cs)) tt))
 
 skipped_left : (t : Text) (o : Option Text) → LeftT t o → LeftN t (skipped o)

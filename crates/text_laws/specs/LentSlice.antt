@@ -8,7 +8,7 @@ use Rattle.std.proofs.Math.ListN.{length-append}
 use Rattle.model.specs.Book.{Systems, components, is_module, is_system, specified}
 use Rattle.model.specs.Lists.{if_found}
 use Rattle.sets.specs.TestLaws.{<?_in, <?_out, bool?, count_le, if-false, if-true, ≤?_in}
-use Rattle.sets.specs.Tests.{◌<?◌, if◌then◌else◌}
+use Rattle.sets.specs.Tests.{◌<?◌, if?◌then◌else◌}
 use Rattle.text.specs.Bytes.{Text, bytes}
 use Rattle.text.specs.Handed.{PassesNamed}
 use Rattle.text.specs.LentSlice.{fits_in, rows_back, state_after}
@@ -43,7 +43,7 @@ decimal_short (suc n) h =
 row_short : (i : ℕ) → i < 100 → length (row i (decimal 0)) ≤ 5
 unfolding row bytes
 row_short i h =
-    let a = decimal_short i h in let z : length (decimal 0) ≡ 1 = unfold decimal digits if◌then◌else◌ ◌<?◌ in refl in
+    let a = decimal_short i h in let z : length (decimal 0) ≡ 1 = unfold decimal digits if?◌then◌else◌ ◌<?◌ in refl in
     let e = length-append (decimal i) (44 ∷ (decimal 0 ++ (10 ∷ []))) in let f = length-append (decimal 0) (10 ∷ []) in
     omega arith
 

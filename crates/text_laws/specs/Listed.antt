@@ -6,9 +6,9 @@ use Rattle.std.proofs.Math.Option.{none, some}
 use Rattle.std.proofs.Common.{◌∙◌, ap, subst, sym, le_trans, arith}
 use Rattle.std.proofs.Math.Path.{refl}
 use Rattle.model.specs.Lists.{beside, elem, every, firsts, from, keep, non_empty, once, rising, seconds}
-use Rattle.sets.specs.TestLaws.{<?_in, ==-in, ==-not, ==-out, ==-same, and_in, and_l, and_r, bool?, clash, count_mono, fails}
+use Rattle.sets.specs.TestLaws.{<?_in, =?-in, =?-not, =?-out, =?-same, and_in, and_l, and_r, bool?, clash, count_mono, fails}
 use Rattle.sets.specs.TestLaws.{if-false, if-true, iff→≡, not_in, not_out, or-false, or_l, or_out, or_r, same?}
-use Rattle.sets.specs.Tests.{◌<?◌, ◌==◌, ◌or◌, count}
+use Rattle.sets.specs.Tests.{◌<?◌, ◌=?◌, ◌or◌, count}
 use Rattle.text.specs.Tables.{Table, name_at}
 use Rattle.text.specs.Written.{before, by_name, insert, sorted}
 use Rattle.text_laws.specs.Places.{once-count}
@@ -22,8 +22,8 @@ from_low zero i n test e = clash e (unfold elem in refl)
 from_low (suc k) i n test e = kept (test i) (λ q. let l = from_low k (suc i) n test q in omega arith) e
   where
     kept : (b : Bool) → (elem n (from k (suc i) test) ≡ true → i ≤ n) → elem n (keep b i (from k (suc i) test)) ≡ true → i ≤ n
-    kept true h e = unfold keep elem in elim (or_out (n == i) (elem n (from k (suc i) test)) e) [
-      | inl q ↦ (let z = ==-out _ _ q in omega arith)
+    kept true h e = unfold keep elem in elim (or_out (n =? i) (elem n (from k (suc i) test)) e) [
+      | inl q ↦ (let z = =?-out _ _ q in omega arith)
       | inr q ↦ h q
     ]
     kept false h e = unfold keep in h e
@@ -53,20 +53,20 @@ or_third true false c = refl
 or_third false true c = refl
 or_third false false c = refl
 
-pub insert-elem : (t : Table) (m n : ℕ) (l : List ℕ) → elem n (insert t m l) ≡ (n == m or elem n l)
+pub insert-elem : (t : Table) (m n : ℕ) (l : List ℕ) → elem n (insert t m l) ≡ (n =? m or elem n l)
 unfolding insert elem
 insert-elem t m n [] = refl
 insert-elem t m n (x ∷ xs) =
     elim (bool? (before (name_at t m) (name_at t x))) [
       | inl q ↦ ap (elem n) (if-true _ _ _ q)
-      | inr q ↦ ap (elem n) (if-false _ _ _ q) ∙ ap (λ (z : Bool). n == x or z) (insert-elem t m n xs)
-          ∙ or_third (n == x) (n == m) (elem n xs)
+      | inr q ↦ ap (elem n) (if-false _ _ _ q) ∙ ap (λ (z : Bool). n =? x or z) (insert-elem t m n xs)
+          ∙ or_third (n =? x) (n =? m) (elem n xs)
     ]
 
 pub sorted-elem : (t : Table) (n : ℕ) (l : List ℕ) → elem n (sorted t l) ≡ elem n l
 unfolding sorted elem
 sorted-elem t n [] = refl
-sorted-elem t n (x ∷ xs) = insert-elem t x n (sorted t xs) ∙ ap (λ (z : Bool). n == x or z) (sorted-elem t n xs)
+sorted-elem t n (x ∷ xs) = insert-elem t x n (sorted t xs) ∙ ap (λ (z : Bool). n =? x or z) (sorted-elem t n xs)
 
 insert-once : (t : Table) (m : ℕ) (l : List ℕ) → elem m l ≡ false → once l ≡ true → once (insert t m l) ≡ true
 unfolding insert once elem
@@ -76,9 +76,9 @@ insert-once t m (x ∷ xs) e o =
       | inl q ↦ ap once (if-true _ _ _ q) ∙ and_in _ _ (not_in _ e) o
       | inr q ↦ ap once (if-false _ _ _ q) ∙ and_in _ _
           (not_in _ (insert-elem t m x xs
-          ∙ or-false _ _ (==-not x m (λ z. clash {A = ⊥} (or_l (m == x) (elem m xs) (==-in _ _ (sym z))) e))
+          ∙ or-false _ _ (=?-not x m (λ z. clash {A = ⊥} (or_l (m =? x) (elem m xs) (=?-in _ _ (sym z))) e))
           ∙ not_out _ (and_l _ _ o)))
-          (insert-once t m xs (fails _ (λ z. clash {A = ⊥} (or_r (m == x) (elem m xs) z) e)) (and_r _ _ o))
+          (insert-once t m xs (fails _ (λ z. clash {A = ⊥} (or_r (m =? x) (elem m xs) z) e)) (and_r _ _ o))
     ]
 
 sorted-once : (t : Table) (l : List ℕ) → once l ≡ true → once (sorted t l) ≡ true
@@ -107,7 +107,7 @@ lists_non_empty (x ∷ xs) test k n e = refl
 below_all : (L : ℕ) (l : List ℕ) → ((n : ℕ) → elem n l ≡ true → n < L) → every (λ x. x <? L) l ≡ true
 unfolding every elem
 below_all L [] h = refl
-below_all L (x ∷ xs) h = and_in _ _ (<?_in _ _ (h x (or_l _ _ (==-same x)))) (below_all L xs (λ n e. h n (or_r _ _ e)))
+below_all L (x ∷ xs) h = and_in _ _ (<?_in _ _ (h x (or_l _ _ (=?-same x)))) (below_all L xs (λ n e. h n (or_r _ _ e)))
 
 pub lists_length : (L : ℕ) (l : List ℕ) (test : ℕ → Bool) → Lists l test → ((n : ℕ) → test n ≡ true → n < L)
     → length l ≤ count L test
@@ -121,7 +121,7 @@ pub every_of : {A : Type 0} (test : A → Bool) (h : ℕ → A) (l : List ℕ) �
     → every test (map h l) ≡ true
 unfolding every elem
 every_of test h [] k = refl
-every_of test h (x ∷ xs) k = and_in _ _ (k x (or_l _ _ (==-same x))) (every_of test h xs (λ n e. k n (or_r _ _ e)))
+every_of test h (x ∷ xs) k = and_in _ _ (k x (or_l _ _ (=?-same x))) (every_of test h xs (λ n e. k n (or_r _ _ e)))
 
 pub firsts-map : {A : Type 0} (g : ℕ → ℕ) (h : ℕ → A) (l : List ℕ) → firsts (map (λ v. (g v, h v)) l) ≡ map g l
 unfolding firsts
@@ -139,7 +139,7 @@ pub elem-map_in : (g : ℕ → ℕ) (l : List ℕ) (n : ℕ) → elem n l ≡ tr
 unfolding elem
 elem-map_in g [] n e = clash e refl
 elem-map_in g (x ∷ xs) n e = elim (or_out _ _ e) [
-  | inl q ↦ or_l _ _ (==-in _ _ (ap g (==-out _ _ q)))
+  | inl q ↦ or_l _ _ (=?-in _ _ (ap g (=?-out _ _ q)))
   | inr q ↦ or_r _ _ (elem-map_in g xs n q)
 ]
 
@@ -148,7 +148,7 @@ unfolding elem
 elem-map_out g [] m e = clash e refl
 elem-map_out g (x ∷ xs) m e =
     elim (or_out _ _ e) [
-      | inl q ↦ (x, or_l _ _ (==-same x), sym (==-out _ _ q))
+      | inl q ↦ (x, or_l _ _ (=?-same x), sym (=?-out _ _ q))
       | inr q ↦ (let r = elem-map_out g xs m q in (r.0, or_r _ _ r.1, r.2))
     ]
 
@@ -158,7 +158,7 @@ unfolding once elem
 once-map g [] o h = refl
 once-map g (x ∷ xs) o h =
     and_in _ _ (not_in _ (fails _ (λ e. let r = elem-map_out g xs (g x) e in
-    clash {A = ⊥} (subst (λ (z : ℕ). elem z xs ≡ true) (h r.0 x (or_r _ _ r.1) (or_l _ _ (==-same x)) r.2) r.1)
+    clash {A = ⊥} (subst (λ (z : ℕ). elem z xs ≡ true) (h r.0 x (or_r _ _ r.1) (or_l _ _ (=?-same x)) r.2) r.1)
     (not_out _ (and_l _ _ o)))))
     (once-map g xs (and_r _ _ o) (λ i j p q e. h i j (or_r _ _ p) (or_r _ _ q) e))
 
@@ -168,9 +168,9 @@ unfolding beside elem
 beside_here g h [] n e k = clash e refl
 beside_here g h (x ∷ xs) n e k =
     elim (same? (g n) (g x)) [
-      | inl q ↦ if-true _ _ _ (==-in _ _ q) ∙ ap (λ (z : ℕ). some (h z)) (k x (or_l _ _ (==-same x)) (sym q))
-      | inr q ↦ if-false _ _ _ (==-not _ _ q)
-          ∙ beside_here g h xs n (elim (or_out _ _ e) [ inl z ↦ absurd (q (ap g (==-out _ _ z))) | inr z ↦ z ])
+      | inl q ↦ if-true _ _ _ (=?-in _ _ q) ∙ ap (λ (z : ℕ). some (h z)) (k x (or_l _ _ (=?-same x)) (sym q))
+      | inr q ↦ if-false _ _ _ (=?-not _ _ q)
+          ∙ beside_here g h xs n (elim (or_out _ _ e) [ inl z ↦ absurd (q (ap g (=?-out _ _ z))) | inr z ↦ z ])
           (λ i p. k i (or_r _ _ p))
     ]
 

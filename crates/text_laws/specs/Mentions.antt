@@ -9,8 +9,8 @@ use Rattle.model.specs.Book.{Book, Modules, Specs, Systems, components, composed
 use Rattle.model.specs.Book.{is_module, is_system, member, provides, requires, specified, usable, versions}
 use Rattle.model.specs.Lists.{elem, every, non_empty}
 use Rattle.model.specs.Maps.{is_some, or_else}
-use Rattle.sets.specs.TestLaws.{==-out, and_l, clash, or_out}
-use Rattle.sets.specs.Tests.{if◌then◌else◌}
+use Rattle.sets.specs.TestLaws.{=?-out, and_l, clash, or_out}
+use Rattle.sets.specs.Tests.{if?◌then◌else◌}
 use Rattle.text.specs.Bytes.{Text, among, short, valid_implementation, valid_name}
 use Rattle.text.specs.Handed.{Named}
 use Rattle.text.specs.Language.{Name, NamedMembers, Said}
@@ -36,7 +36,7 @@ use Rattle.model_laws.specs.MapLaws.{is_some_out}
 enter_append : (t : Table) (xs ys : List Name) → enter t (xs ++ ys) ≡ enter (enter t xs) ys
 unfolding enter
 enter_append t [] ys = refl
-enter_append t (x ∷ xs) ys = enter_append (if among x t then t else (t ++ (x ∷ []))) xs ys
+enter_append t (x ∷ xs) ys = enter_append (if? among x t then t else (t ++ (x ∷ []))) xs ys
 
 pub entered_all : (k : Kind) (t : Tables) (ks : List Said)
     → table k (all_entered t ks) ≡ enter (table k t) (joined (map (λ c. table k (mentioned c)) ks))
@@ -70,7 +70,7 @@ unfolding joined elem
 among_of w sel h [] n e a = clash e refl
 among_of w sel h (x ∷ xs) n e a =
     elim (or_out _ _ e) [
-      | inl q ↦ among_l w (sel (h x)) _ (subst (λ (z : ℕ). among w (sel (h z)) ≡ true) (==-out _ _ q) a)
+      | inl q ↦ among_l w (sel (h x)) _ (subst (λ (z : ℕ). among w (sel (h z)) ≡ true) (=?-out _ _ q) a)
       | inr q ↦ among_r w (sel (h x)) _ (among_of w sel h xs n q a)
     ]
 

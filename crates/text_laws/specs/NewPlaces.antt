@@ -5,8 +5,8 @@ use Rattle.std.proofs.Math.Option.{Option, none, some}
 use Rattle.std.proofs.Math.Path.{ap}
 use Rattle.model.specs.Lists.{non_empty}
 use Rattle.model.specs.Maps.{has, or_else}
-use Rattle.sets.specs.TestLaws.{==-in, ==-out, iff→≡}
-use Rattle.sets.specs.Tests.{◌==◌}
+use Rattle.sets.specs.TestLaws.{=?-in, =?-out, iff→≡}
+use Rattle.sets.specs.Tests.{◌=?◌}
 use Rattle.text.specs.Bytes.{among}
 use Rattle.text.specs.Handed.{Once}
 use Rattle.text.specs.Language.{Name}
@@ -82,7 +82,7 @@ module _ {t T : Table} {L : ℕ} {Use : ℕ → Type 0} (two : TwoTables t T L U
       has_in _ _ (new t T n) (ap (place T) (sym a) ∙ at_new n k) (h _ ∙ ap P (renaming.back n k) ∙ q.2))
 
 -- two numbers are equal, in either table
-pub eq_through : {f g : ℕ → ℕ} {L : ℕ} {Use : ℕ → Type 0} → Renaming f g L Use → (m d : ℕ) → Use d → (m == g d) ≡ (f m == d)
+pub eq_through : {f g : ℕ → ℕ} {L : ℕ} {Use : ℕ → Type 0} → Renaming f g L Use → (m d : ℕ) → Use d → (m =? g d) ≡ (f m =? d)
 eq_through {f} {g} {Use = Use} R m d u = iff→≡ _ _
-    (λ e. ==-in _ _ (ap f (==-out _ _ e) ∙ R.back d u))
-    (λ e. ==-in _ _ (sym (R.forth m (subst Use (sym (==-out _ _ e)) u)) ∙ ap g (==-out _ _ e)))
+    (λ e. =?-in _ _ (ap f (=?-out _ _ e) ∙ R.back d u))
+    (λ e. =?-in _ _ (sym (R.forth m (subst Use (sym (=?-out _ _ e)) u)) ∙ ap g (=?-out _ _ e)))

@@ -8,9 +8,9 @@ use Rattle.std.proofs.Math.Path.{ap, refl, subst}
 use Prim.Native.Nat.{◌<◌, ◌≤◌, suc, zero, ℕ}
 use Rattle.model.specs.Book.{Book, Systems, components, is_system, specified, usable}
 use Rattle.model.specs.Lists.{elem, if_found}
-use Rattle.sets.specs.TestLaws.{==-in, ==-out, ==-same, all_no, all_out, and_in, and_l, and_r, bool?, clash, count_le, count_strict}
+use Rattle.sets.specs.TestLaws.{=?-in, =?-out, =?-same, all_no, all_out, and_in, and_l, and_r, bool?, clash, count_le, count_strict}
 use Rattle.sets.specs.TestLaws.{fails, if-false, if-true, imp_no, imp_out, not_in, not_out, or_l, or_out, or_r}
-use Rattle.sets.specs.Tests.{◌&◌, ◌==◌, count, ~◌}
+use Rattle.sets.specs.Tests.{◌&◌, ◌=?◌, count, ~◌}
 use Rattle.text.specs.Written.{first_of, ready, systems_from}
 use Rattle.text_laws.specs.Listed.{Lists, elem-map_in, elem-map_out}
 use Rattle.text_laws.specs.Renamed.{Renumbering}
@@ -27,7 +27,7 @@ first_none test (x ∷ xs) e n k =
     elim (bool? (test x)) [
       | inl q ↦ no_some (sym e ∙ if-true _ _ _ q)
       | inr q ↦ elim (or_out _ _ k) [
-        | inl z ↦ ap test (==-out _ _ z) ∙ q
+        | inl z ↦ ap test (=?-out _ _ z) ∙ q
         | inr z ↦ first_none test xs (sym (if-false _ _ _ q) ∙ e) n z
       ]
     ]
@@ -38,7 +38,7 @@ first_some test [] n e = no_some e
 first_some test (x ∷ xs) n e =
     elim (bool? (test x)) [
       | inl q ↦ (let z : x ≡ n = some-injective _ _ (sym (if-true _ _ _ q) ∙ e) in
-          (or_l _ _ (==-in _ _ (sym z)), ap test (sym z) ∙ q))
+          (or_l _ _ (=?-in _ _ (sym z)), ap test (sym z) ∙ q))
       | inr q ↦ (let r = first_some test xs n (sym (if-false _ _ _ q) ∙ e) in (or_r _ _ r.0, r.1))
     ]
 
@@ -93,9 +93,9 @@ module _ (b : Book) (g : Good b) (ss : List ℕ) (ks : Lists ss (is_system b.sys
   unfolding left elem
   left_falls out x k e =
       count_strict components _ _ (λ i l t. and_in _ _ (and_l _ _ t)
-      (not_in _ (fails _ (λ z. clash {A = ⊥} (or_r (i == x) (elem i out) z) (not_out _ (and_r _ _ t))))))
+      (not_in _ (fails _ (λ z. clash {A = ⊥} (or_r (i =? x) (elem i out) z) (not_out _ (and_r _ _ t))))))
       x (g.system_limits.component< x k)
-      (fails _ (λ t. clash {A = ⊥} (or_l (x == x) (elem x out) (==-same x)) (not_out _ (and_r _ _ t))))
+      (fails _ (λ t. clash {A = ⊥} (or_l (x =? x) (elem x out) (=?-same x)) (not_out _ (and_r _ _ t))))
       (and_in _ _ k (not_in _ e))
 
   left_some : (out : List ℕ) (x : ℕ) → is_system Y x ≡ true → elem x out ≡ false → 0 < left out
@@ -128,10 +128,10 @@ module _ (b : Book) (g : Good b) (ss : List ℕ) (ks : Lists ss (is_system b.sys
       elim (option? (next_system out)) [
         | inl z ↦ clash (next_none out z s k) e
         | inr q ↦ (let x = q.0 in let r = next_some out x q.1 in
-            ap (elem s) (from_some n Y ss out x q.1) ∙ elim (bool? (s == x)) [
+            ap (elem s) (from_some n Y ss out x q.1) ∙ elim (bool? (s =? x)) [
               | inl w ↦ or_l _ _ w
               | inr w ↦ or_r _ _ (all_written n (x ∷ out) (let f = left_falls out x r.0 r.1 in omega arith) s k
-                  (fails _ (λ t. elim (or_out (s == x)
+                  (fails _ (λ t. elim (or_out (s =? x)
                   (elem s out) t) [ inl a ↦ clash {A = ⊥} a w | inr a ↦ clash {A = ⊥} a e ])))
             ])
       ]
@@ -143,7 +143,7 @@ module _ (b : Book) (g : Good b) (ss : List ℕ) (ks : Lists ss (is_system b.sys
       elim (option? (next_system out)) [
         | inl z ↦ clash (ap (elem x) (sym (from-none n Y ss out z)) ∙ e) refl
         | inr q ↦ elim (or_out _ _ (ap (elem x) (sym (from_some n Y ss out q.0 q.1)) ∙ e)) [
-          | inl z ↦ ap (is_system Y) (==-out _ _ z) ∙ (next_some out q.0 q.1).0
+          | inl z ↦ ap (is_system Y) (=?-out _ _ z) ∙ (next_some out q.0 q.1).0
           | inr z ↦ systems_are n (q.0 ∷ out) x z
         ]
       ]
@@ -194,9 +194,9 @@ module _ (b : Book) (g : Good b) (ss : List ℕ) (ks : Lists ss (is_system b.sys
     out_more : (out : List ℕ) → Out out → (x : ℕ) → is_system Y x ≡ true → ready Y out x ≡ true → Out (x ∷ out)
     unfolding elem
     out_more out o x k r = record {
-      sys = λ n e. elim (or_out _ _ e) [ inl z ↦ ap (is_system Y) (==-out _ _ z) ∙ k | inr z ↦ o.sys n z ];
+      sys = λ n e. elim (or_out _ _ e) [ inl z ↦ ap (is_system Y) (=?-out _ _ z) ∙ k | inr z ↦ o.sys n z ];
       shut = λ s c e u w. elim (or_out _ _ e) [
-        | inl z ↦ or_r _ _ (ready_in out x c r (ap (λ (a : ℕ). usable Y a c) (sym (==-out _ _ z)) ∙ u) w)
+        | inl z ↦ or_r _ _ (ready_in out x c r (ap (λ (a : ℕ). usable Y a c) (sym (=?-out _ _ z)) ∙ u) w)
         | inr z ↦ or_r _ _ (o.shut s c z u w)
       ];
     }

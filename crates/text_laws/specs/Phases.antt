@@ -6,7 +6,7 @@ use Rattle.model.specs.Book.{Book}
 use Rattle.model.specs.Commands.{Command, after}
 use Rattle.model.specs.Lists.{elem, once}
 use Rattle.model.specs.PlainBook.{answer}
-use Rattle.sets.specs.TestLaws.{==-in, ==-not, ==-out, ==-same, and_l, and_r, bool?, clash, fails, if-false, if-true, not_out}
+use Rattle.sets.specs.TestLaws.{=?-in, =?-not, =?-out, =?-same, and_l, and_r, bool?, clash, fails, if-false, if-true, not_out}
 use Rattle.sets.specs.TestLaws.{or-false, or_l, or_out, or_r}
 use Rattle.text.specs.Bytes.{same}
 use Rattle.text.specs.Language.{Name, Said, standards}
@@ -33,7 +33,7 @@ pushed_in new_c [] l n e = clash e refl
 pushed_in new_c (c ∷ cs) l n e =
     elim (or_out _ _ e) [
       | inl q ↦ pushed_keeps new_c cs (new_c c ∷ l) (new_c n) (unfold elem in
-          or_l _ _ (==-in _ _ (ap new_c (==-out _ _ q))))
+          or_l _ _ (=?-in _ _ (ap new_c (=?-out _ _ q))))
       | inr q ↦ pushed_in new_c cs (new_c c ∷ l) n q
     ]
 
@@ -64,11 +64,11 @@ pub list_in_turn : {old_c new_c : ℕ → ℕ} {L : ℕ} {Use : ℕ → Type 0} 
 unfolding once elem
 list_in_turn R test u [] l o h = none_left
 list_in_turn {old_c} {new_c} R test u (c ∷ cs) l o h =
-    one_more_lem (h c (or_l _ _ (==-same c))) (list_in_turn R test u cs (new_c c ∷ l) (and_r _ _ o) (λ n e. (
+    one_more_lem (h c (or_l _ _ (=?-same c))) (list_in_turn R test u cs (new_c c ∷ l) (and_r _ _ o) (λ n e. (
       (h n (or_r _ _ e)).0,
-      or-false _ _ (==-not (new_c n) (new_c c) (λ z.
+      or-false _ _ (=?-not (new_c n) (new_c c) (λ z.
           clash {A = ⊥} (subst (λ (k : ℕ). elem k cs ≡ true) (sym (R.back n (u n (h n (or_r _ _ e)).0)) ∙ ap old_c z
-          ∙ R.back c (u c (h c (or_l _ _ (==-same c))).0)) e) (not_out _ (and_l _ _ o)))) ∙ (h n (or_r _ _ e)).1,
+          ∙ R.back c (u c (h c (or_l _ _ (=?-same c))).0)) e) (not_out _ (and_l _ _ o)))) ∙ (h n (or_r _ _ e)).1,
     )))
 
 -- ---- the standard version's mark
@@ -77,7 +77,7 @@ no_mark : (N : ℕ → Name) (h : ℕ → List Name) (d : ℕ) (l : List ℕ) �
     → standards (map (flag (N d)) (map (λ v. (N v, h v)) l)) ≡ []
 unfolding standards flag elem
 no_mark N h d [] k = refl
-no_mark N h d (x ∷ xs) k = if-false _ _ _ (k x (or_l _ _ (==-same x))) ∙ no_mark N h d xs (λ n e. k n (or_r _ _ e))
+no_mark N h d (x ∷ xs) k = if-false _ _ _ (k x (or_l _ _ (=?-same x))) ∙ no_mark N h d xs (λ n e. k n (or_r _ _ e))
 
 pub one_mark : (N : ℕ → Name) (h : ℕ → List Name) (d : ℕ) (l : List ℕ) → once l ≡ true → elem d l ≡ true
     → ((n : ℕ) → elem n l ≡ true → same (N n) (N d) ≡ true → n ≡ d)
@@ -86,14 +86,14 @@ unfolding standards flag elem once
 one_mark N h d [] o e k = clash e refl
 one_mark N h d (x ∷ xs) o e k =
     elim (bool? (same (N x) (N d))) [
-      | inl q ↦ (let z = k x (or_l _ _ (==-same x)) q in
+      | inl q ↦ (let z = k x (or_l _ _ (=?-same x)) q in
           if-true _ _ _ q ∙ ap₂ (λ (a : Name) (r : List Name). a ∷ r) (ap N z)
           (no_mark N h d xs (λ n w. fails _
           (λ y. clash {A = ⊥} (subst (λ (i : ℕ). elem i xs ≡ true) (k n (or_r _ _ w) y ∙ sym z) w)
           (not_out _ (and_l _ _ o))))))
       | inr q ↦ if-false _ _ _ q ∙ one_mark N h d xs (and_r _ _ o)
           (elim (or_out _ _ e) [
-            | inl z ↦ clash (ap (λ (i : ℕ). same (N i) (N d)) (sym (==-out _ _ z))
+            | inl z ↦ clash (ap (λ (i : ℕ). same (N i) (N d)) (sym (=?-out _ _ z))
                 ∙ same_refl (N d)) q
             | inr z ↦ z
           ])

@@ -4,9 +4,9 @@ use Rattle.std.proofs.Common.{append_assoc, append-nil, inl, inr, ◌∙◌, ap,
 use Rattle.std.proofs.Math.Option.{Option, some-injective, some}
 use Rattle.model.specs.Lists.{elem, every, non_empty, once}
 use Rattle.model.specs.Maps.{has, is_some, option_map, or_else}
-use Rattle.sets.specs.TestLaws.{<?_out, ==-out, ==-same, and_in, and_l, and_r, bool?, clash, count_le, count_strict, fails}
+use Rattle.sets.specs.TestLaws.{<?_out, =?-out, =?-same, and_in, and_l, and_r, bool?, clash, count_le, count_strict, fails}
 use Rattle.sets.specs.TestLaws.{if-false, if-true, imp_in, imp_out, not_in, not_out, or-false, or_l, or_out, or_r}
-use Rattle.sets.specs.Tests.{◌&◌, ◌<?◌, count, if◌then◌else◌, ~◌}
+use Rattle.sets.specs.Tests.{◌&◌, ◌<?◌, count, if?◌then◌else◌, ~◌}
 use Rattle.text.specs.Bytes.{among, same}
 use Rattle.text.specs.Handed.{Once, none_twice}
 use Rattle.text.specs.Language.{Name}
@@ -108,7 +108,7 @@ pub enter_keeps : (t : Table) (ws : List Name) (w : Name) → among w t ≡ true
 enter_keeps t ws w a = let i = enter_longer t ws in subst (λ (z : Table). among w z ≡ true) (sym i.1) (among_l w t i.0 a)
 
 put_in : Table → Name → Table
-put_in t w = if among w t then t else (t ++ (w ∷ []))
+put_in t w = if? among w t then t else (t ++ (w ∷ []))
 
 put_in_has : (t : Table) (w : Name) → among w (put_in t w) ≡ true
 unfolding put_in
@@ -127,7 +127,7 @@ pub enter_every : (test : Name → Bool) (t : Table) (ws : List Name) → every 
     → every test (enter t ws) ≡ true
 unfolding enter every
 enter_every test t [] p q = p
-enter_every test t (w ∷ ws) p q = enter_every test (if among w t then t else (t ++ (w ∷ []))) ws
+enter_every test t (w ∷ ws) p q = enter_every test (if? among w t then t else (t ++ (w ∷ []))) ws
     (elim (bool? (among w t)) [
       | inl e ↦ ap (every test) (if-true _ _ _ e) ∙ p
       | inr e ↦ ap (every test) (if-false _ _ _ e)
@@ -158,7 +158,7 @@ apart_more (x ∷ xs) w p q =
 pub enter_apart : (t : Table) (ws : List Name) → apart t ≡ true → apart (enter t ws) ≡ true
 unfolding enter
 enter_apart t [] p = p
-enter_apart t (w ∷ ws) p = enter_apart (if among w t then t else (t ++ (w ∷ []))) ws
+enter_apart t (w ∷ ws) p = enter_apart (if? among w t then t else (t ++ (w ∷ []))) ws
     (elim (bool? (among w t)) [
       | inl e ↦ ap apart (if-true _ _ _ e) ∙ p
       | inr e ↦ ap apart (if-false _ _ _ e) ∙ apart_more t w p e
@@ -211,7 +211,7 @@ elem-map t L w [] p q e = clash e refl
 elem-map t L w (x ∷ xs) p q e =
     elim (or_out _ _ e) [
       | inl z ↦ or_l _ _ (ap (λ (y : Name). same w y)
-          (sym (number-apart t w x (known_there t L w q) (known_there t L x (and_l _ _ p)) (==-out _ _ z))) ∙ same_refl w)
+          (sym (number-apart t w x (known_there t L w q) (known_there t L x (and_l _ _ p)) (=?-out _ _ z))) ∙ same_refl w)
       | inr z ↦ or_r _ _ (elem-map t L w xs (and_r _ _ p) q z)
     ]
 
@@ -221,7 +221,7 @@ once-count L [] o b = zero-le
 once-count L (x ∷ xs) o b =
     le_trans (suc_le (once-count L xs (and_r _ _ o) (and_r _ _ b)))
     (count_strict L (λ i. elem i xs) (λ i. elem i (x ∷ xs)) (λ i l e. or_r _ _ e) x (<?_out _ _ (and_l _ _ b))
-    (not_out _ (and_l _ _ o)) (or_l _ _ (==-same x)))
+    (not_out _ (and_l _ _ o)) (or_l _ _ (=?-same x)))
   where
     suc_le : {m n : ℕ} → m ≤ n → suc m ≤ suc n
     suc_le h = omega arith

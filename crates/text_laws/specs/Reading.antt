@@ -8,8 +8,8 @@ use Prim.Native.Nat.{◌+◌, ◌≤◌, suc, zero, ℕ}
 use Rattle.std.proofs.Math.ListN.{length-append}
 use Rattle.model.specs.Lists.{every, non_empty}
 use Rattle.model.specs.Maps.{and_then, only_if}
-use Rattle.sets.specs.TestLaws.{==-not, and_l, and_r, clash, if-false, if-true, not_out, or_out, ≤?_out}
-use Rattle.sets.specs.Tests.{◌&◌, ◌==◌, ◌or◌, ◌≤?◌, if◌then◌else◌, ~◌}
+use Rattle.sets.specs.TestLaws.{=?-not, and_l, and_r, clash, if-false, if-true, not_out, or_out, ≤?_out}
+use Rattle.sets.specs.Tests.{◌&◌, ◌=?◌, ◌or◌, ◌≤?◌, if?◌then◌else◌, ~◌}
 use Rattle.text.specs.Bytes.{Text, alnum, bytes, impl_byte, is_mark, name_byte, name_word, same, short, valid_name, white}
 use Rattle.text.specs.Language.{Reader, ◌>>=◌, ◌>>◌, ahead, ahead_of, equals, give, key, list_in, list_of, name, name_of, semicolon}
 use Rattle.text.specs.Language.{want, want_of, when}
@@ -59,18 +59,18 @@ alnum_big c h =
       ]
     ]
 
-not_gap : (c : ℕ) → alnum c ≡ true → (white c or c == 123) ≡ false
+not_gap : (c : ℕ) → alnum c ≡ true → (white c or c =? 123) ≡ false
 unfolding white
 not_gap c h =
     let b = alnum_big c h in
-    let e₁ = ==-not c 32 (omega arith) in let e₂ = ==-not c 9 (omega arith) in let e₃ = ==-not c 13 (omega arith) in
-    let e₄ = ==-not c 10 (omega arith) in let e₅ = ==-not c 123 (omega arith) in
+    let e₁ = =?-not c 32 (omega arith) in let e₂ = =?-not c 9 (omega arith) in let e₃ = =?-not c 13 (omega arith) in
+    let e₄ = =?-not c 10 (omega arith) in let e₅ = =?-not c 123 (omega arith) in
     rw (e₁, e₂, e₃, e₄, e₅) (unfold ◌or◌ in refl)
 
 -- a word that stands at the start of a text is the next_token token
 pub next_word : (c : ℕ) (cs t : Text) → alnum c ≡ true → every name_byte cs ≡ true → stops name_byte t ≡ true
     → next_token (c ∷ (cs ++ t)) ≡ token (word (c ∷ cs)) t
-unfolding next_token skip skipped token_at if◌then◌else◌
+unfolding next_token skip skipped token_at if?◌then◌else◌
 next_word c cs t a e h =
     rw (not_gap c a, a, run_word name_byte cs t e h, past_word name_byte cs t e h)
 
@@ -86,7 +86,7 @@ valid_name_lem (c ∷ cs) v = and_r _ _ (and_r _ _ v)
 
 -- a space before a token
 pub next_space : (t : Text) → next_token (32 ∷ t) ≡ next_token t
-unfolding next_token skip skipped token_at white ◌or◌ ◌==◌ if◌then◌else◌
+unfolding next_token skip skipped token_at white ◌or◌ ◌=?◌ if?◌then◌else◌
 next_space t = refl
 
 only_if_yes : {A : Type 0} (b : Bool) (x : A) → b ≡ true → only_if b x ≡ some x
@@ -106,7 +106,7 @@ name_spaced w t v h = ap name_of (next_space (w ++ t)) ∙ name_reads w t v h
 -- to unfold this is to read bytes that are written out
 unfoldable pub lexing : Unit {0}
 unfolding
-    bytes next_token skip skipped token_at run past closing short white alnum name_byte impl_byte is_mark ~◌ if◌then◌else◌ ◌&◌ ◌or◌ ◌==◌ ◌≤?◌ non_empty same stops
+    bytes next_token skip skipped token_at run past closing short white alnum name_byte impl_byte is_mark ~◌ if?◌then◌else◌ ◌&◌ ◌or◌ ◌=?◌ ◌≤?◌ non_empty same stops
     is_token ahead ahead_of want want_of key only_if every
 lexing = tt
 

@@ -6,8 +6,8 @@ use Rattle.std.proofs.Math.Option.{Option, none, some}
 use Rattle.std.proofs.Math.Path.{ap, ap₂, refl}
 use Rattle.model.specs.Lists.{every, non_empty}
 use Rattle.model.specs.Maps.{has}
-use Rattle.sets.specs.TestLaws.{==-same, and_in, and_l, and_r, clash, if-true}
-use Rattle.sets.specs.Tests.{◌&◌, if◌then◌else◌}
+use Rattle.sets.specs.TestLaws.{=?-same, and_in, and_l, and_r, clash, if-true}
+use Rattle.sets.specs.Tests.{◌&◌, if?◌then◌else◌}
 use Rattle.text.specs.Bytes.{Text, among, bytes, impl_byte, keywords, name_byte, same, short, valid_implementation, valid_name}
 use Rattle.text.specs.Language.{MOD, Name, NamedMembers, SPEC, SYS, Said, add_mod, add_spec, add_sys, ahead, by_word, comma, command}
 use Rattle.text.specs.Language.{command_of, compo, compos, equals, give, grammar, imp, key, list_of, mod_version, name, names}
@@ -30,7 +30,7 @@ abbrev pub Flagged : Type 0
 Flagged = Bool × (Name × List Name)
 
 flagged_piece : Flagged → Text
-flagged_piece y = (if y.0 then bytes "std " else []) ++ (y.1.0 ++ requiring y.1.1)
+flagged_piece y = (if? y.0 then bytes "std " else []) ++ (y.1.0 ++ requiring y.1.1)
 
 ok_flagged : Flagged → Bool
 ok_flagged y = valid_name y.1.0 & every valid_name y.1.1
@@ -54,7 +54,7 @@ no_std v o = no_keyword (bytes "std") v (unfold lexing among keywords in refl) (
 
 version_read : (b : Bool) (v : Name) (rs : List Name) (t : Text) → ok_flagged (b, (v, rs)) ≡ true → Tail t
     → spec_version (32 ∷ (flagged_piece (b, (v, rs)) ++ t)) ≡ some ((b, (v, rs)), t)
-unfolding spec_version flagged_piece ok_flagged if◌then◌else◌ give
+unfolding spec_version flagged_piece ok_flagged if?◌then◌else◌ give
 version_read true v rs t o h =
     bind (ahead (key "std")) _ _ (ahead_std (v ++ requiring rs) t)
     ∙ bind name _ _ (ap (λ (l : Text). name (32 ∷ l)) (append_assoc v (requiring rs) t)
@@ -121,7 +121,7 @@ string_next i t = refl
 
 closing_quote : (i t : Text) → short i ≡ true → closing i (34 ∷ t) ≡ token (quoted i) t
 unfolding closing
-closing_quote i t o = if-true _ _ _ (and_in _ _ (==-same 34) o)
+closing_quote i t o = if-true _ _ _ (and_in _ _ (=?-same 34) o)
 
 implementation_reads : (i t : Text) → valid_implementation i ≡ true → imp (32 ∷ (34 ∷ (i ++ (bytes "\"" ++ t)))) ≡ some (i, t)
 unfolding imp valid_implementation quoted_of bytes

@@ -11,9 +11,9 @@ use Rattle.model.specs.Maps.{has, if_there, is_some, option_map}
 use Rattle.model.specs.Rules.{B3, B3_at, B4, B5, B5_at, B6, B6_at, B7, B7_at, B8, B8_at, B9, B9_at, each_composition, needs, needs_to}
 use Rattle.model.specs.Rules.{offered, p, r, reaches, reaches_in}
 use Rattle.sets.specs.Sets.{disjoint, meet, minus, subset, union}
-use Rattle.sets.specs.TestLaws.{==-in, ==-out, all_cong, all_in, all_out, and_in, and_l, and_r, any_cong, any_in, any_out, bool?}
+use Rattle.sets.specs.TestLaws.{=?-in, =?-out, all_cong, all_in, all_out, and_in, and_l, and_r, any_cong, any_in, any_out, bool?}
 use Rattle.sets.specs.TestLaws.{clash, fails, iff→≡, imp_no, not_in, not_no, not_out, or_l, or_out, or_r}
-use Rattle.sets.specs.Tests.{◌&◌, ◌==◌, ◌or◌, ◌⇒◌, all, any, ~◌}
+use Rattle.sets.specs.Tests.{◌&◌, ◌=?◌, ◌or◌, ◌⇒◌, all, any, ~◌}
 use Rattle.text_laws.specs.TextLaws.{has-map, if_cong, if_there-map, imp_like, there_no}
 use Rattle.model_laws.specs.Frame.{composed_system, composition_in, composition_out, mem_usable, system_in, system_out}
 use Rattle.model_laws.specs.Good.{Good}
@@ -219,9 +219,9 @@ module _ (b : Book) (g : Good b) (S₁ : Specs) (Y₁ : Systems) (re : Renumberi
       ∙ all_c (λ c. if_there (member Y (old_c s) (old_v v) c) (λ w. usable Y (old_c s) c & has_version S c w))
       (λ c t. (let q = there_no _ _ t in member_spec (old_c s) (old_v v) c q.0 q.1)))) g.b5
 
-  eq_like : (c d : ℕ) → specified S (old_c c) ≡ true → specified S (old_c d) ≡ true → (c == d) ≡ (old_c c == old_c d)
-  eq_like c d hc hd = iff→≡ _ _ (λ e. ==-in _ _ (ap old_c (==-out _ _ e)))
-      (λ e. ==-in _ _ (sym (re.of_c.forth c hc) ∙ ap new_c (==-out _ _ e) ∙ re.of_c.forth d hd))
+  eq_like : (c d : ℕ) → specified S (old_c c) ≡ true → specified S (old_c d) ≡ true → (c =? d) ≡ (old_c c =? old_c d)
+  eq_like c d hc hd = iff→≡ _ _ (λ e. =?-in _ _ (ap old_c (=?-out _ _ e)))
+      (λ e. =?-in _ _ (sym (re.of_c.forth c hc) ∙ ap new_c (=?-out _ _ e) ∙ re.of_c.forth d hd))
 
   -- a test of each member
   member_like : (s v : ℕ) → is_system Y₁ s ≡ true → (t₁ t : ℕ → Bool) → ((c : ℕ) → specified S (old_c c) ≡ true → t₁ c ≡ t (old_c c))
@@ -243,8 +243,8 @@ module _ (b : Book) (g : Good b) (S₁ : Specs) (Y₁ : Systems) (re : Renumberi
   unfolding B6 B6_at
   B6_like = each_like _ _ (λ s v y.
       member_like s v y _ (λ c. all components
-      (λ d. is_member Y (old_c s) (old_v v) d ⇒ ~ (c == d) ⇒ disjoint facilities (provides S c) (provides S d)))
-      (λ c hc. member_like s v y _ (λ d. ~ (old_c c == d) ⇒ disjoint facilities (provides S (old_c c)) (provides S d)) (λ d hd.
+      (λ d. is_member Y (old_c s) (old_v v) d ⇒ ~ (c =? d) ⇒ disjoint facilities (provides S c) (provides S d)))
+      (λ c hc. member_like s v y _ (λ d. ~ (old_c c =? d) ⇒ disjoint facilities (provides S (old_c c)) (provides S d)) (λ d hd.
       ap₂ (λ (e x : Bool). ~ e ⇒ x) (eq_like c d hc hd) (apart_like c d)))) g.b6
 
   pub B7_like : B7 S₁ Y₁ ≡ true

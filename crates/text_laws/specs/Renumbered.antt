@@ -7,8 +7,8 @@ use Rattle.model.specs.Book.{Book, Modules, Spec, Specs, System, Systems, compos
 use Rattle.model.specs.Book.{is_module, is_system, member, provides, required, requires, specified, usable}
 use Rattle.model.specs.Lists.{elem}
 use Rattle.model.specs.Maps.{Map, and_then, has, is_some, option_map, put}
-use Rattle.sets.specs.TestLaws.{==-out, bool?, clash, fails, if-false, if-true, or-false, or_l}
-use Rattle.sets.specs.Tests.{◌==◌, if◌then◌else◌}
+use Rattle.sets.specs.TestLaws.{=?-out, bool?, clash, fails, if-false, if-true, or-false, or_l}
+use Rattle.sets.specs.Tests.{◌=?◌, if?◌then◌else◌}
 use Rattle.text_laws.specs.Renamed.{Renumbering}
 use Rattle.text_laws.specs.TextLaws.{has-map}
 use Rattle.model_laws.specs.MapLaws.{is_some_no, option_map-some}
@@ -16,7 +16,7 @@ use Rattle.model_laws.specs.MapLaws.{is_some_no, option_map-some}
 -- ---- what is put in so far: the part of a map at the numbers of a list
 
 unfoldable pub only : {A : Type 0} → List ℕ → Map A → Map A
-only l m n = if elem n l then m n else none
+only l m n = if? elem n l then m n else none
 
 pub only_in : {A : Type 0} (l : List ℕ) (m : Map A) (n : ℕ) → elem n l ≡ true → only l m n ≡ m n
 unfolding only
@@ -28,9 +28,9 @@ only_out l m n e = if-false _ _ _ e
 
 pub put_only : {A : Type 0} (l : List ℕ) (m : Map A) (c : ℕ) (y : A) → m c ≡ some y → put c (some y) (only l m) ≡ only (c ∷ l) m
 unfolding put only elem
-put_only l m c y e = fun_ext (λ k. elim (bool? (k == c)) [
-  | inl q ↦ if-true _ _ _ q ∙ sym (ap m (==-out _ _ q) ∙ e) ∙ sym (if-true _ _ _ (or_l _ _ q))
-  | inr q ↦ if-false _ _ _ q ∙ sym (ap (λ (z : Bool). if z then m k else none) (or-false _ _ q))
+put_only l m c y e = fun_ext (λ k. elim (bool? (k =? c)) [
+  | inl q ↦ if-true _ _ _ q ∙ sym (ap m (=?-out _ _ q) ∙ e) ∙ sym (if-true _ _ _ (or_l _ _ q))
+  | inr q ↦ if-false _ _ _ q ∙ sym (ap (λ (z : Bool). if? z then m k else none) (or-false _ _ q))
 ])
 
 pub only_all : {A : Type 0} (l : List ℕ) (m : Map A) → ((n : ℕ) → is_some (m n) ≡ true → elem n l ≡ true) → only l m ≡ m

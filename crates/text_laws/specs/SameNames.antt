@@ -9,8 +9,8 @@ use Rattle.model.specs.Book.{components, composed, facilities, has_version, impl
 use Rattle.model.specs.Book.{requires, specified, standard, usable, versions}
 use Rattle.model.specs.Lists.{elem, non_empty}
 use Rattle.model.specs.Maps.{has}
-use Rattle.sets.specs.TestLaws.{==-out, ==-same, all_in, all_out, and_in, and_r, imp_in, imp_out}
-use Rattle.sets.specs.Tests.{◌&◌, ◌==◌}
+use Rattle.sets.specs.TestLaws.{=?-out, =?-same, all_in, all_out, and_in, and_r, imp_in, imp_out}
+use Rattle.sets.specs.Tests.{◌&◌, ◌=?◌}
 use Rattle.text.specs.Bytes.{among}
 use Rattle.text.specs.Handed.{Once}
 use Rattle.text.specs.Language.{Name}
@@ -154,11 +154,11 @@ module _ (s s' : State) (A : Alike s s') where
     standard_same =
         let d = standard s.book.specs c in
         let P : (x : State) → Name → ℕ → Bool = λ x w c. at x.tables.vers w (λ v. specified x.book.specs c
-        & v == standard x.book.specs c) in
+        & v =? standard x.book.specs c) in
         let e = sym (read (λ c. Standard c (W d)) (P s (W d)) (P s' (W d)) (λ w. refl) (λ w. refl))
-        ∙ at_here _ _ d _ (is_v s p c d (p.good.b1.std_in c k.there)) ∙ and_in _ _ k.there (==-same d) in
+        ∙ at_here _ _ d _ (is_v s p c d (p.good.b1.std_in c k.there)) ∙ and_in _ _ k.there (=?-same d) in
         let q = at_out _ _ _ e in
-        sym q.1 ∙ ap W' (==-out _ _ (and_r _ _ q.2))
+        sym q.1 ∙ ap W' (=?-out _ _ (and_r _ _ q.2))
 
     -- a version with the same name in both
     module _ (v v' : ℕ) (h : has_version s.book.specs c v ≡ true) (h' : has_version s'.book.specs c' v' ≡ true) (e : W v
@@ -181,31 +181,31 @@ module _ (s s' : State) (A : Alike s s') where
       impl_fwd i a =
           let I = name_at s.tables.impls i in
           let Q : (x : State) → ℕ → ℕ → Bool = λ x c v. at x.tables.impls I
-          (λ i. has (implementation x.book.modules c v) (λ j. i == j)) in
+          (λ i. has (implementation x.book.modules c v) (λ j. i =? j)) in
           let P : (x : State) → ℕ → Bool = λ x c. at x.tables.vers (W v) (Q x c) in
           let e₁ = sym (read (λ c. Implemented c (W v) I) (P s) (P s') (λ w. refl) (λ w. refl))
-          ∙ at_here _ _ v (Q s c) (is_v s p c v h) ∙ at_here _ _ i _ (is_i s p c v i a) ∙ has_in _ _ i a (==-same i) in
+          ∙ at_here _ _ v (Q s c) (is_v s p c v h) ∙ at_here _ _ i _ (is_i s p c v i a) ∙ has_in _ _ i a (=?-same i) in
           let e₂ = sym (at_here _ _ v' (Q s' c') (is_v s' p' c' v' h'))
           ∙ ap (λ (z : Name). at s'.tables.vers z (Q s' c')) (sym e) ∙ e₁ in
           let q = at_out _ _ _ e₂ in let r = has_out _ _ q.2 in
-          (r.0, r.1, ap (name_at s'.tables.impls) (sym (==-out _ _ r.2)) ∙ q.1)
+          (r.0, r.1, ap (name_at s'.tables.impls) (sym (=?-out _ _ r.2)) ∙ q.1)
 
       pub member_fwd : (d w : ℕ) → member s.book.systems c v d ≡ some w
           → (d' : ℕ) × (w' : ℕ) × (member s'.book.systems c' v' d' ≡ some w') × (N' d' ≡ N d) × (W' w' ≡ W w)
       unfolding holds
       member_fwd d w a =
           let R : (x : State) → ℕ → ℕ → ℕ
-          → Bool = λ x c v d. at x.tables.vers (W w) (λ w. has (member x.book.systems c v d) (λ x. w == x)) in
+          → Bool = λ x c v d. at x.tables.vers (W w) (λ w. has (member x.book.systems c v d) (λ x. w =? x)) in
           let Q : (x : State) → ℕ → ℕ → Bool = λ x c v. at x.tables.comps (N d) (R x c v) in
           let P : (x : State) → ℕ → Bool = λ x c. at x.tables.vers (W v) (Q x c) in
           let m = member_of_lem s p c v d w a in
           let e₁ = sym (read (λ c. Member c (W v) (N d) (W w)) (P s) (P s') (λ w. refl) (λ w. refl))
           ∙ at_here _ _ v (Q s c) (is_v s p c v h) ∙ at_here _ _ d (R s c v) (is_c s p d m.0)
-          ∙ at_here _ _ w _ (is_v s p d w m.1) ∙ has_in _ _ w a (==-same w) in
+          ∙ at_here _ _ w _ (is_v s p d w m.1) ∙ has_in _ _ w a (=?-same w) in
           let e₂ = sym (at_here _ _ v' (Q s' c') (is_v s' p' c' v' h'))
           ∙ ap (λ (z : Name). at s'.tables.vers z (Q s' c')) (sym e) ∙ e₁ in
           let q = at_out _ _ _ e₂ in let r = at_out _ _ _ q.2 in let z = has_out _ _ r.2 in
-          (q.0, z.0, z.1, q.1, ap W' (sym (==-out _ _ z.2)) ∙ r.1)
+          (q.0, z.0, z.1, q.1, ap W' (sym (=?-out _ _ z.2)) ∙ r.1)
 
       pub is_member_fwd : (n : Name) → at s.tables.comps n (is_member s.book.systems c v) ≡ true
           → at s'.tables.comps n (is_member s'.book.systems c' v') ≡ true

@@ -4,8 +4,8 @@ use Rattle.std.proofs.Common.{inl, inr, ◌∙◌, ap, ap₂, sym}
 use Rattle.std.proofs.Math.Option.{Option, none, some}
 use Rattle.model.specs.Lists.{elem, every, non_empty}
 use Rattle.model.specs.Maps.{has, if_there, option_map, or_else}
-use Rattle.sets.specs.TestLaws.{==-out, ==-same, and_in, and_l, and_r, clash, imp_cong, or_l, or_out, or_r}
-use Rattle.sets.specs.Tests.{◌&◌, ◌⇒◌, if◌then◌else◌}
+use Rattle.sets.specs.TestLaws.{=?-out, =?-same, and_in, and_l, and_r, clash, imp_cong, or_l, or_out, or_r}
+use Rattle.sets.specs.Tests.{◌&◌, ◌⇒◌, if?◌then◌else◌}
 use Rattle.text.specs.Bytes.{Text, among, same}
 use Rattle.text.specs.Language.{Name, Read, Reader, Said, by_word, read_as, wrong}
 use Rattle.text.specs.Tables.{Table, joined}
@@ -17,12 +17,12 @@ unfolding same
 same_out [] [] e = refl
 same_out [] (d ∷ ds) e = clash e refl
 same_out (c ∷ cs) [] e = clash e refl
-same_out (c ∷ cs) (d ∷ ds) e = ap₂ (λ (x : ℕ) (l : Text). x ∷ l) (==-out _ _ (and_l _ _ e)) (same_out cs ds (and_r _ _ e))
+same_out (c ∷ cs) (d ∷ ds) e = ap₂ (λ (x : ℕ) (l : Text). x ∷ l) (=?-out _ _ (and_l _ _ e)) (same_out cs ds (and_r _ _ e))
 
 pub same_refl : (a : Text) → same a a ≡ true
 unfolding same
 same_refl [] = refl
-same_refl (c ∷ cs) = and_in _ _ (==-same c) (same_refl cs)
+same_refl (c ∷ cs) = and_in _ _ (=?-same c) (same_refl cs)
 
 pub same_sym : (a b : Text) → same a b ≡ true → same b a ≡ true
 same_sym a b e = ap (λ (z : Text). same b z) (same_out a b e) ∙ same_refl b
@@ -126,8 +126,8 @@ or_at o n e = ap (λ (x : Option ℕ). or_else x 0) e
 -- ---- tests
 
 pub if_cong : {A : Type 0} (t t' : Bool) {x x' y y' : A} → t ≡ t' → (t ≡ true → x ≡ x') → y ≡ y'
-    → (if t then x else y) ≡ (if t' then x' else y')
-unfolding if◌then◌else◌
+    → (if? t then x else y) ≡ (if? t' then x' else y')
+unfolding if?◌then◌else◌
 if_cong true true e f g = f refl
 if_cong true false e f g = clash (sym e) refl
 if_cong false true e f g = clash e refl
@@ -136,8 +136,8 @@ if_cong false false e f g = g
 pub imp_like : {a a' x x' : Bool} → a ≡ a' → (a ≡ true → x ≡ x') → (a ⇒ x) ≡ (a' ⇒ x')
 imp_like {a} {a'} {x} {x'} e h = imp_cong a h ∙ ap (λ (z : Bool). z ⇒ x') e
 
-pub by_test : {A : Type 0} (Q : A → Type 0) (b : Bool) (x y : A) → (b ≡ true → Q x) → Q y → Q (if b then x else y)
-unfolding if◌then◌else◌
+pub by_test : {A : Type 0} (Q : A → Type 0) (b : Bool) (x y : A) → (b ≡ true → Q x) → Q y → Q (if? b then x else y)
+unfolding if?◌then◌else◌
 by_test Q true x y p q = p refl
 by_test Q false x y p q = q
 
@@ -146,7 +146,7 @@ unfolding among elem
 among_names_out f [] w a = clash a refl
 among_names_out f (x ∷ xs) w a =
     elim (or_out _ _ a) [
-      | inl q ↦ (x, or_l _ _ (==-same x), same_out w (f x) q)
+      | inl q ↦ (x, or_l _ _ (=?-same x), same_out w (f x) q)
       | inr q ↦ (let r = among_names_out f xs w q in (r.0, or_r _ _ r.1, r.2))
     ]
 
@@ -155,7 +155,7 @@ unfolding elem among
 among_names_in f [] n e = clash e refl
 among_names_in f (x ∷ xs) n e =
     elim (or_out _ _ e) [
-      | inl q ↦ or_l _ _ (ap (λ (z : ℕ). same (f n) (f z)) (sym (==-out _ _ q))
+      | inl q ↦ or_l _ _ (ap (λ (z : ℕ). same (f n) (f z)) (sym (=?-out _ _ q))
           ∙ same_refl (f n))
       | inr q ↦ or_r _ _ (among_names_in f xs n q)
     ]

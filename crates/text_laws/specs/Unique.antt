@@ -4,9 +4,9 @@ use Rattle.std.proofs.Common.{inl, inr, ◌∙◌, ap, ap₂, subst, sym, arith}
 use Rattle.std.proofs.Math.Path.{refl}
 use Rattle.model.specs.Lists.{elem, every, non_empty, once}
 use Rattle.model.specs.Maps.{has}
-use Rattle.sets.specs.TestLaws.{<?_in, <?_no, <?_out, ==-in, ==-out, ==-same, and_in, and_l, and_r, bool?, clash, fails, if-false}
+use Rattle.sets.specs.TestLaws.{<?_in, <?_no, <?_out, =?-in, =?-out, =?-same, and_in, and_l, and_r, bool?, clash, fails, if-false}
 use Rattle.sets.specs.TestLaws.{if-true, iff→≡, not_out, or-false, or_l, or_out, or_r, same?}
-use Rattle.sets.specs.Tests.{◌&◌, ◌<?◌, ◌==◌}
+use Rattle.sets.specs.Tests.{◌&◌, ◌<?◌, ◌=?◌}
 use Rattle.text.specs.Bytes.{among, same}
 use Rattle.text.specs.Handed.{Once}
 use Rattle.text.specs.Language.{Name}
@@ -36,11 +36,11 @@ before_trans (x ∷ xs) (y ∷ ys) (z ∷ zs) p q =
     elim (or_out _ _ p) [
       | inl a ↦ elim (or_out _ _ q) [
         | inl b ↦ (let h = <?_out _ _ a in let k = <?_out _ _ b in or_l _ _ (<?_in _ _ (omega arith)))
-        | inr b ↦ (let h = <?_out _ _ a in let k = ==-out _ _ (and_l _ _ b) in or_l _ _ (<?_in _ _ (omega arith)))
+        | inr b ↦ (let h = <?_out _ _ a in let k = =?-out _ _ (and_l _ _ b) in or_l _ _ (<?_in _ _ (omega arith)))
       ]
       | inr a ↦ elim (or_out _ _ q) [
-        | inl b ↦ (let h = ==-out _ _ (and_l _ _ a) in let k = <?_out _ _ b in or_l _ _ (<?_in _ _ (omega arith)))
-        | inr b ↦ or_r _ _ (and_in _ _ (==-in _ _ (==-out _ _ (and_l _ _ a) ∙ ==-out _ _ (and_l _ _ b)))
+        | inl b ↦ (let h = =?-out _ _ (and_l _ _ a) in let k = <?_out _ _ b in or_l _ _ (<?_in _ _ (omega arith)))
+        | inr b ↦ or_r _ _ (and_in _ _ (=?-in _ _ (=?-out _ _ (and_l _ _ a) ∙ =?-out _ _ (and_l _ _ b)))
             (before_trans xs ys zs (and_r _ _ a) (and_r _ _ b)))
       ]
     ]
@@ -52,11 +52,11 @@ before_total [] (y ∷ ys) p n = clash refl p
 before_total (x ∷ xs) [] p n = refl
 before_total (x ∷ xs) (y ∷ ys) p n =
     elim (same? x y) [
-      | inl e ↦ or_r _ _ (and_in _ _ (==-in _ _ (sym e))
+      | inl e ↦ or_r _ _ (and_in _ _ (=?-in _ _ (sym e))
           (before_total xs ys (fails _ (λ z. clash {A = ⊥}
-          (or_r (x <? y) (x == y & before xs ys) (and_in _ _ (==-in _ _ e) z)) p))
+          (or_r (x <? y) (x =? y & before xs ys) (and_in _ _ (=?-in _ _ e) z)) p))
           (λ z. n (ap₂ (λ (a : ℕ) (l : Name). a ∷ l) e z))))
-      | inr e ↦ or_l _ _ (<?_in _ _ (above x y e (λ h. clash {A = ⊥} (or_l (x <? y) (x == y & before xs ys) (<?_in _ _ h)) p)))
+      | inr e ↦ or_l _ _ (<?_in _ _ (above x y e (λ h. clash {A = ⊥} (or_l (x <? y) (x =? y & before xs ys) (<?_in _ _ h)) p)))
     ]
   where
     above : (x y : ℕ) → x ≢ y → (x < y → ⊥) → y < x
@@ -113,7 +113,7 @@ every_names : (test : Name → Bool) (f : ℕ → Name) (l : List ℕ) → every
 unfolding every elem
 every_names test f [] e n k = clash k refl
 every_names test f (x ∷ xs) e n k = elim (or_out _ _ k) [
-  | inl q ↦ ap (λ (z : ℕ). test (f z)) (==-out _ _ q)
+  | inl q ↦ ap (λ (z : ℕ). test (f z)) (=?-out _ _ q)
       ∙ and_l _ _ e
   | inr q ↦ every_names test f xs (and_r _ _ e) n q
 ]
@@ -128,12 +128,12 @@ insert-rises t o n (m ∷ ms) e k r =
           ∙ and_in _ _ (cons q (every_more (name_at t n) (name_at t m) (map (name_at t) ms) q (and_l _ _ r))) r
       | inr q ↦ ap (λ (l : List ℕ). rises (map (name_at t) l)) (if-false _ _ _ q) ∙ and_in _ _
           (every_of (before (name_at t m)) (name_at t) (insert t n ms) (λ x y. elim (or_out _ _ (sym (insert-elem t n x ms) ∙ y)) [
-            | inl z ↦ ap (λ (i : ℕ). before (name_at t m) (name_at t i)) (==-out _ _ z)
+            | inl z ↦ ap (λ (i : ℕ). before (name_at t m) (name_at t i)) (=?-out _ _ z)
                 ∙ before_total (name_at t n) (name_at t m) q
-                (λ a. clash {A = ⊥} (or_l (n == m) (elem n ms) (==-in _ _ (o n m e a))) k)
+                (λ a. clash {A = ⊥} (or_l (n =? m) (elem n ms) (=?-in _ _ (o n m e a))) k)
             | inr z ↦ every_names (before (name_at t m)) (name_at t) ms (and_l _ _ r) x z
           ]))
-          (insert-rises t o n ms e (fails _ (λ z. clash {A = ⊥} (or_r (n == m) (elem n ms) z) k)) (and_r _ _ r))
+          (insert-rises t o n ms e (fails _ (λ z. clash {A = ⊥} (or_r (n =? m) (elem n ms) z) k)) (and_r _ _ r))
     ]
   where
     cons : before (name_at t n) (name_at t m) ≡ true → every (before (name_at t n)) (map (name_at t) ms) ≡ true
@@ -145,7 +145,7 @@ sorted_rises : (t : Table) → Once t → (l : List ℕ) → once l ≡ true →
 unfolding sorted once elem
 sorted_rises t o [] k h = unfold rises in refl
 sorted_rises t o (x ∷ xs) k h =
-    insert-rises t o x (sorted t xs) (h x (or_l _ _ (==-same x))) (sorted-elem t x xs ∙ not_out _ (and_l _ _ k))
+    insert-rises t o x (sorted t xs) (h x (or_l _ _ (=?-same x))) (sorted-elem t x xs ∙ not_out _ (and_l _ _ k))
     (sorted_rises t o xs (and_r _ _ k) (λ n e. h n (or_r _ _ e)))
 
 -- the names of the numbers that pass a test
@@ -175,5 +175,5 @@ map_along N N' h h' [] (y ∷ ys) e k = absurd (let z : ◌≡◌ {A = ℕ} 0 (s
 map_along N N' h h' (x ∷ xs) [] e k = absurd (let z : ◌≡◌ {A = ℕ} (suc (length (map N xs))) 0 = ap length e in omega arith)
 map_along N N' h h' (x ∷ xs) (y ∷ ys) e k =
     let a : N x ≡ N' y = cc in let b : map N xs ≡ map N' ys = cc in
-    ap₂ (λ (z : _) (r : List _). z ∷ r) (k x y (or_l _ _ (==-same x)) (or_l _ _ (==-same y)) a)
+    ap₂ (λ (z : _) (r : List _). z ∷ r) (k x y (or_l _ _ (=?-same x)) (or_l _ _ (=?-same y)) a)
     (map_along N N' h h' xs ys b (λ n n' p q w. k n n' (or_r _ _ p) (or_r _ _ q) w))

@@ -5,7 +5,7 @@ use Rattle.std.proofs.Math.Option.{Option, none, some}
 use Rattle.model.specs.Lists.{every}
 use Rattle.model.specs.Maps.{and_then, if_there, only_if}
 use Rattle.sets.specs.TestLaws.{and_in, and_l, and_r, bool?, if-false, if-true}
-use Rattle.sets.specs.Tests.{◌&◌, ◌==◌, ~◌}
+use Rattle.sets.specs.Tests.{◌&◌, ◌=?◌, ~◌}
 use Rattle.text.specs.Bytes.{Text, alnum, bytes, impl_byte, is_mark, name_byte, name_word, same, short, valid_implementation, valid_name}
 use Rattle.text.specs.Language.{CHOICE, DELMOD, DELMODVAR, DELSPEC, DELSYS, DELSYSVAR, MOD, MODVAR, NEEDS, Name, NamedMembers, OUT}
 use Rattle.text.specs.Language.{PARTS, Read, Reader, SPEC, STANDARD, SUPPLIES, SYS, SYSVAR, Said, UNDEFINED, UNUSED, WHEREUSED}
@@ -40,14 +40,14 @@ NextOk bad = Unit {0}
 closing_ok : (w r : Text) → every impl_byte w ≡ true → NextOk (closing w r)
 unfolding closing valid_implementation
 closing_ok w [] e = tt
-closing_ok w (d ∷ ds) e = by_test NextOk (d == 34 & short w) _ _ (λ q. and_in _ _ (and_r _ _ q) e) tt
+closing_ok w (d ∷ ds) e = by_test NextOk (d =? 34 & short w) _ _ (λ q. and_in _ _ (and_r _ _ q) e) tt
 
 token_ok : (t : Text) → NextOk (token_at t)
 unfolding token_at
 token_ok [] = tt
 token_ok (c ∷ cs) =
     by_test NextOk (alnum c) _ _ (λ q. (q, run-every name_byte cs))
-    (by_test NextOk (is_mark c) _ _ (λ q. tt) (by_test NextOk (c == 34) _ _ (λ q. closing_ok _ _ (run-every impl_byte cs)) tt))
+    (by_test NextOk (is_mark c) _ _ (λ q. tt) (by_test NextOk (c =? 34) _ _ (λ q. closing_ok _ _ (run-every impl_byte cs)) tt))
 
 skipped_ok : (o : Option Text) → NextOk (skipped o)
 unfolding skipped

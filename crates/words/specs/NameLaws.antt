@@ -7,10 +7,10 @@ use Rattle.std.proofs.Math.Path.{ap, sym}
 use Rattle.std.proofs.lemmas.Bool.{not-true}
 use Rattle.model.specs.Lists.{every, non_empty}
 use Rattle.model.specs.Maps.{is_some}
-use Rattle.sets.specs.TestLaws.{==-in, ==-out, and-false, and_in, and_l, and_r, bool?, clash, fails, if-true, iff→≡}
+use Rattle.sets.specs.TestLaws.{=?-in, =?-out, and-false, and_in, and_l, and_r, bool?, clash, fails, if-true, iff→≡}
 use Rattle.sets.specs.TestLaws.{not_in, not_out, ≤?_in, ≤?_out}
 use Rattle.sets.specs.Sets.{bit}
-use Rattle.sets.specs.Tests.{◌&◌, ◌==◌, ◌≤?◌, if◌then◌else◌}
+use Rattle.sets.specs.Tests.{◌&◌, ◌=?◌, ◌≤?◌, if?◌then◌else◌}
 use Rattle.text.specs.Bytes.{Text, alnum, among, bytes, impl_byte, keywords, name_byte, name_word, same, short, valid_implementation}
 use Rattle.text.specs.Bytes.{valid_name}
 use Rattle.text.specs.Tables.{Table, name_at, place}
@@ -33,7 +33,7 @@ held_at n names w k r h e t q = e ∙ ap (same w) (sym (last_at n (name_in names
 
 -- each keyword has one of the hashes
 keywords_hashed : every (λ w. bit keyword_hashes (hash_of w)) keywords ≡ true
-unfolding every bit hash_of keywords bytes ◌&◌ ◌==◌
+unfolding every bit hash_of keywords bytes ◌&◌ ◌=?◌
 keywords_hashed = refl
 
 pub hash_none : (w : Text) (r : Bool) → r ≡ bit keyword_hashes (hash_of w) → not r ≡ true → answered Nothing ≡ place keywords w
@@ -72,7 +72,7 @@ every_past f [] e = refl
 every_past f (c ∷ cs) e = if-true _ _ _ (and_l _ _ e) ∙ every_past f cs (and_r _ _ e)
 
 past_every : (f : ℕ → Bool) (u : Text) → past f u ≡ [] → every f u ≡ true
-unfolding every past if◌then◌else◌
+unfolding every past if?◌then◌else◌
 past_every f [] e = refl
 past_every f (c ∷ cs) e =
     elim (bool? (f c)) [
@@ -81,10 +81,10 @@ past_every f (c ∷ cs) e =
     ]
 
 -- the run reaches the end just where every byte passes
-run-every : (f : ℕ → Bool) (t : Text) (at e : ℕ) → RunsTo f t at e → (e == length t) ≡ every f (drop at t)
+run-every : (f : ℕ → Bool) (t : Text) (at e : ℕ) → RunsTo f t at e → (e =? length t) ≡ every f (drop at t)
 run-every f t at e w = iff→≡ _ _
-    (λ q. past_every f (drop at t) (sym w.is ∙ drop_of_length-le t {i = e} (let z = ==-out e (length t) q in omega arith)))
-    (λ q. ==-in e (length t)
+    (λ q. past_every f (drop at t) (sym w.is ∙ drop_of_length-le t {i = e} (let z = =?-out e (length t) q in omega arith)))
+    (λ q. =?-in e (length t)
     (let z = ap length (w.is ∙ every_past f (drop at t) q) in let l = length-drop e t in let h = w.inside in omega arith))
 
 pub name_empty : (w : Text) → length w ≡ 0 → false ≡ valid_name w
@@ -94,13 +94,13 @@ name_empty (c ∷ cs) h = absurd (omega arith)
 
 pub name_is : (w : Text) (p n : Bool) (e : ℕ) → (length w ≡ 0 → ⊥) → p ≡ alnum (get_or w 0 0) → RunsTo (in_run false) w 1 e
     → n ≡ name_word w → (p && (eqb e (length w) && n)) ≡ valid_name w
-unfolding valid_name in_run ◌&◌ ◌==◌
+unfolding valid_name in_run ◌&◌ ◌=?◌
 name_is [] p n e h a s q = absurd (h refl)
 name_is (c ∷ cs) p n e h a s q = ap₂ ◌&◌ a (ap₂ ◌&◌ (run-every name_byte (c ∷ cs) 1 e s) q)
 
 pub implementation_is : (w : Text) (e : ℕ) → RunsTo (in_run true) w 0 e
     → ((ltb 0 (length w) && leb (length w) 32) && eqb e (length w)) ≡ valid_implementation w
-unfolding valid_implementation short non_empty in_run ◌&◌ ◌==◌ ◌≤?◌
+unfolding valid_implementation short non_empty in_run ◌&◌ ◌=?◌ ◌≤?◌
 implementation_is [] e s = refl
 implementation_is (c ∷ cs) e s =
     ap (λ (b : Bool). (b && leb (length (c ∷ cs)) 32) && eqb e (length (c ∷ cs))) (lt-ltb 0 (length (c ∷ cs)) (omega arith))

@@ -2,7 +2,7 @@
 use Rattle.std.specs.Prelude.{Bool, false, true, [], ◌≡◌, ◌%◌, ◌*◌, ◌+◌, ◌-◌, ◌<◌, ◌≤◌, ℕ, drop, get_or, length, take}
 use Rattle.std.proofs.Math.Option.{Option, none, some}
 use Rattle.model.specs.Maps.{or_else}
-use Rattle.sets.specs.Tests.{◌==◌, ◌or◌, ~◌}
+use Rattle.sets.specs.Tests.{◌=?◌, ◌or◌, ~◌}
 use Rattle.text.specs.Bytes.{Text, impl_byte, name_byte, white}
 use Rattle.text.specs.Tokens.{Next, bad, closing, end, mark, past, quoted, run, skip, token, token_at, word}
 use Rattle.words.specs.declared.Skipped.{Skipped}
@@ -18,12 +18,12 @@ part t a e = take (e - a) (drop a t)
 
 -- the byte c may stand in a comment, or between tokens
 unfoldable pub passes : Bool → ℕ → Bool
-passes inside c = inside or white c or c == 123
+passes inside c = inside or white c or c =? 123
 
 -- a comment is open after c: "a comment runs from "{" to the first "}""
 unfoldable pub stays_open : Bool → ℕ → Bool
-stays_open true c = ~ (c == 125)
-stays_open false c = c == 123
+stays_open true c = ~ (c =? 125)
+stays_open false c = c =? 123
 
 unfoldable pub rest_from : Text → Skipped → Option Text
 rest_from t (To i) = some (drop i t)

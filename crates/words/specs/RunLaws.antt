@@ -3,7 +3,7 @@ use Rattle.std.specs.Prelude.{Bool, false, true, [], ◌∷◌, ◌≡◌, refl,
 use Rattle.std.proofs.Common.{inl, inr, ◌∙◌, ap, le_refl, add-one, arith, drop_of_length-le, length-drop, drop-cons}
 use Rattle.std.proofs.Math.Path.{sym}
 use Rattle.sets.specs.TestLaws.{bool?, if-false, if-true}
-use Rattle.sets.specs.Tests.{if◌then◌else◌}
+use Rattle.sets.specs.Tests.{if?◌then◌else◌}
 use Rattle.text.specs.Bytes.{Text}
 use Rattle.text.specs.Tokens.{past, run}
 use Rattle.words.specs.Reading.{RunsTo, part}
@@ -41,13 +41,13 @@ module _ (f : ℕ → Bool) (t : Text) (at i : ℕ) (s : Running f t at i) where
   run_over h = record { is = sym (s.is ∙ rw (drop_of_length-le t h)); from = s.from; inside = s.inside }
 
 past_le : (f : ℕ → Bool) (u : Text) → length (past f u) ≤ length u
-unfolding past if◌then◌else◌
+unfolding past if?◌then◌else◌
 past_le f [] = le_refl 0
 past_le f (c ∷ cs) =
     elim (bool? (f c)) [ inl e ↦ rw e (let h = past_le f cs in omega arith) | inr e ↦ rw e (le_refl (length (c ∷ cs))) ]
 
 run_take : (f : ℕ → Bool) (u : Text) → run f u ≡ take (length u - length (past f u)) u
-unfolding run past if◌then◌else◌
+unfolding run past if?◌then◌else◌
 run_take f [] = refl
 run_take f (c ∷ cs) =
     elim (bool? (f c)) [

@@ -7,8 +7,8 @@ use Rattle.std.proofs.Math.Numerals.{add-one}
 use native.Mathlib.Omega.{arith}
 use Rattle.std.proofs.Math.ListN.{get_or}
 use Rattle.model.specs.Lists.{non_empty}
-use Rattle.sets.specs.TestLaws.{==-in, ==-not, and-false, and_in, and_l, and_r, clash, fails, if-false, if-true, ≤?_in, ≤?_out}
-use Rattle.sets.specs.Tests.{◌&◌, ◌==◌, if◌then◌else◌}
+use Rattle.sets.specs.TestLaws.{=?-in, =?-not, and-false, and_in, and_l, and_r, clash, fails, if-false, if-true, ≤?_in, ≤?_out}
+use Rattle.sets.specs.Tests.{◌&◌, ◌=?◌, if?◌then◌else◌}
 use Rattle.text.specs.Bytes.{Text, alnum, impl_byte, is_mark, name_byte, short}
 use Rattle.text.specs.Tokens.{Next, bad, closing, next_token, quoted, skip, skipped, token, token_at, word}
 use Rattle.words.specs.declared.Skipped.{Skipped}
@@ -44,19 +44,19 @@ module _ (t : Text) (at e : ℕ) (w : RunsTo (in_run true) t at e) where
 
   module _ (h : e < length t) where
     from_byte : quoted_from (drop at t)
-        ≡ (if get_or t e 0 == 34 & short (part t at e) then token (quoted (part t at e)) (drop (e + 1) t) else bad)
+        ≡ (if? get_or t e 0 =? 34 & short (part t at e) then token (quoted (part t at e)) (drop (e + 1) t) else bad)
     unfolding closing
     from_byte = from-run ∙ rw (drop-cons t e 0 h, add-one e)
 
     long : length (part t at e) ≡ e - at
     long = part_length t at e w.inside
 
-    no : (get_or t e 0 == 34 & short (part t at e)) ≡ false → Reads t at (quoted_from (drop at t)) Bad
+    no : (get_or t e 0 =? 34 & short (part t at e)) ≡ false → Reads t at (quoted_from (drop at t)) Bad
     unfolding next_of
     no b = record { is = sym (from_byte ∙ if-false _ _ _ b); within = tt }
 
     pub quoted_open : get_or t e 0 ≢ 34 → Reads t at (quoted_from (drop at t)) Bad
-    quoted_open n = no (and-false _ _ (==-not _ _ n))
+    quoted_open n = no (and-false _ _ (=?-not _ _ n))
 
     pub quoted_none : e ≤ at → Reads t at (quoted_from (drop at t)) Bad
     quoted_none l = no (fails _ (λ b. let q = short_out _ (and_r _ _ b) in absurd (omega (arith, long))))
@@ -67,7 +67,7 @@ module _ (t : Text) (at e : ℕ) (w : RunsTo (in_run true) t at e) where
     pub quoted_yes : get_or t e 0 ≡ 34 → at < e → e - at ≤ 32 → Reads t at (quoted_from (drop at t)) (Quoted at e)
     unfolding next_of
     quoted_yes q l m = record {
-      is = sym (from_byte ∙ if-true _ _ _ (and_in _ _ (==-in _ _ q) (short_in _ (omega (arith, long)) (omega (arith, long)))));
+      is = sym (from_byte ∙ if-true _ _ _ (and_in _ _ (=?-in _ _ q) (short_in _ (omega (arith, long)) (omega (arith, long)))));
       within = (omega arith, l, h);
     }
 
@@ -113,21 +113,21 @@ module _ (t : Text) (at : ℕ) (h : at < length t) where
       }
 
       module _ (m : q ≡ false) where
-        other : token_at (drop at t) ≡ (if get_or t at 0 == 34 then quoted_from (drop (at + 1) t) else bad)
+        other : token_at (drop at t) ≡ (if? get_or t at 0 =? 34 then quoted_from (drop (at + 1) t) else bad)
         unfolding token_at quoted_from
         other = ap token_at starts ∙ if-false _ _ _ (sym a ∙ n) ∙ if-false _ _ _ (sym b ∙ m)
 
         pub token_quoted : get_or t at 0 ≡ 34 → (r : Token) → Reads t (at + 1) (quoted_from (drop (at + 1) t)) r
             → Reads t at (token_at (drop at t)) r
         token_quoted y r s = reads_from t at (at + 1) _ r (omega arith) (record {
-          is = s.is ∙ sym (other ∙ if-true _ _ _ (==-in _ _ y));
+          is = s.is ∙ sym (other ∙ if-true _ _ _ (=?-in _ _ y));
           within = s.within;
         })
 
         pub token_bad : get_or t at 0 ≢ 34 → Reads t at (token_at (drop at t)) Bad
         unfolding next_of
         token_bad y = record {
-          is = sym (other ∙ if-false _ _ _ (==-not _ _ y));
+          is = sym (other ∙ if-false _ _ _ (=?-not _ _ y));
           within = tt;
         }
 

@@ -8,7 +8,7 @@ use Rattle.std.proofs.Math.ListN.{length}
 use Rattle.std.proofs.Math.Seq.{drop-append_seam, take-append_seam}
 use Rattle.model.specs.Maps.{or_else}
 use Rattle.sets.specs.TestLaws.{bool?, clash, if-false, if-true}
-use Rattle.sets.specs.Tests.{◌&◌, ◌==◌, if◌then◌else◌}
+use Rattle.sets.specs.Tests.{◌&◌, ◌=?◌, if?◌then◌else◌}
 use Rattle.text.specs.Bytes.{Text, alnum, is_mark, name_byte, short}
 use Rattle.text.specs.Tokens.{Next, bad, closing, end, mark, next_token, past, quoted, run, token, token_at, word}
 use Rattle.words.specs.declared.Skipped.{Skipped}
@@ -19,7 +19,7 @@ use Rattle.words.specs.TokenLaws.{next_open, part_length, skipped_to, token_word
 -- ---- a text by its first byte
 
 run_past : (f : ℕ → Bool) (u : Text) → run f u ++ past f u ≡ u
-unfolding run past if◌then◌else◌
+unfolding run past if?◌then◌else◌
 run_past f [] = refl
 run_past f (c ∷ cs) = elim (bool? (f c)) [ inl e ↦ rw e (ap (λ (x : Text). c ∷ x) (run_past f cs)) | inr e ↦ rw e refl ]
 
@@ -43,9 +43,9 @@ not_word end e = refl
 not_word bad e = refl
 
 closing_neither : (w u : Text) → neither (closing w u) ≡ true
-unfolding closing neither if◌then◌else◌
+unfolding closing neither if?◌then◌else◌
 closing_neither w [] = refl
-closing_neither w (c ∷ cs) = elim (bool? (c == 34 & short w)) [ inl e ↦ rw e refl | inr e ↦ rw e refl ]
+closing_neither w (c ∷ cs) = elim (bool? (c =? 34 & short w)) [ inl e ↦ rw e refl | inr e ↦ rw e refl ]
 
 first_neither : (c : ℕ) (cs : Text) → alnum c ≡ false → neither (token_at (c ∷ cs)) ≡ true
 unfolding token_at neither
@@ -54,7 +54,7 @@ first_neither c cs n =
     ∙ elim (bool? (is_mark c)) [
       | inl e ↦ ap neither (if-true _ _ _ e)
       | inr e ↦ ap neither (if-false _ _ _ e)
-          ∙ elim (bool? (c == 34)) [ inl q ↦ ap neither (if-true _ _ _ q) ∙ closing_neither _ _ | inr q ↦ ap neither (if-false _ _ _ q) ]
+          ∙ elim (bool? (c =? 34)) [ inl q ↦ ap neither (if-true _ _ _ q) ∙ closing_neither _ _ | inr q ↦ ap neither (if-false _ _ _ q) ]
     ]
 
 first_no_word : (c : ℕ) (cs : Text) → alnum c ≡ false → word_of (token_at (c ∷ cs)) ≡ none

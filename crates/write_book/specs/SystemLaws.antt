@@ -13,8 +13,8 @@ use Rattle.model.specs.Maps.{or_else}
 use Rattle.sets.specs.Sets.{Set, below, bit, disjoint, minus, with, without}
 use Rattle.sets.specs.SetLaws.{bit_zero}
 use Rattle.sets.specs.TestLaws.{<?_in, <?_out, all_same, all_width, and_in, and_l, and_r, bool?, clash, fails, if-false, if-true, iff→≡}
-use Rattle.sets.specs.TestLaws.{imp_in, imp_out, not_in, not_out, or_l, or_r, ==-in}
-use Rattle.sets.specs.Tests.{◌&◌, ◌<?◌, ◌==◌, ◌⇒◌, ~◌}
+use Rattle.sets.specs.TestLaws.{imp_in, imp_out, not_in, not_out, or_l, or_r, =?-in}
+use Rattle.sets.specs.Tests.{◌&◌, ◌<?◌, ◌=?◌, ◌⇒◌, ~◌}
 use Rattle.text.specs.Bytes.{Text}
 use Rattle.text.specs.Tables.{Table, joined}
 use Rattle.text.specs.Written.{by_name, first_of, ready, systems_from}
@@ -89,7 +89,7 @@ first_elem : (test : ℕ → Bool) (l : List ℕ) (x : ℕ) → first_of test l 
 unfolding first_of elem
 first_elem test [] x e = no_some e
 first_elem test (y ∷ ys) x e = elim (bool? (test y)) [
-  | inl q ↦ or_l _ _ (==-in _ _ (sym (some-injective _ _ (sym (if-true _ _ _ q) ∙ e))))
+  | inl q ↦ or_l _ _ (=?-in _ _ (sym (some-injective _ _ (sym (if-true _ _ _ q) ∙ e))))
   | inr q ↦ or_r _ _ (first_elem test ys x (sym (if-false _ _ _ q) ∙ e))
 ]
 

@@ -1,7 +1,7 @@
 -- Numbers by name: the first of them, and a list of them.
 use Rattle.std.specs.Prelude.{List, [], ◌∷◌, map, ℕ}
 use Rattle.sets.specs.Sets.{Set}
-use Rattle.sets.specs.Tests.{◌≤?◌, if◌then◌else◌}
+use Rattle.sets.specs.Tests.{◌≤?◌, if?◌then◌else◌}
 use Rattle.text.specs.Bytes.{Text}
 use Rattle.text.specs.Tables.{Table, name_at}
 use Rattle.text.specs.Written.{before, by_name, parted}
@@ -18,7 +18,7 @@ first_by_name t n test = first_or n (by_name t n test)
 -- the first of those above k is `best`; and k comes to them
 unfoldable pub first_with : Table → ℕ → Set → ℕ → ℕ → ℕ
 first_with t n test k best =
-    if test k then (if n ≤? best then k else if before (name_at t k) (name_at t best) then k else best) else best
+    if? test k then (if? n ≤? best then k else if? before (name_at t k) (name_at t best) then k else best) else best
 
 -- what f writes of each number that passes the test, by name, with the text p between each two
 unfoldable pub listed : Text → (ℕ → Text) → Table → ℕ → Set → Text

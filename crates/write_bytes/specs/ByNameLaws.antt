@@ -10,9 +10,9 @@ use native.Mathlib.Omega.{arith}
 use borrow.Author.Tests.{not-false, not-true}
 use Rattle.model.specs.Lists.{elem, from, keep, rising}
 use Rattle.sets.specs.Sets.{Set, without}
-use Rattle.sets.specs.TestLaws.{==-in, ==-not, ==-out, ==-same, and-false, and_in, and_swap, and-true, bool?, clash, fails, if-false, if-true, not_in, or_l, or_out}
+use Rattle.sets.specs.TestLaws.{=?-in, =?-not, =?-out, =?-same, and-false, and_in, and_swap, and-true, bool?, clash, fails, if-false, if-true, not_in, or_l, or_out}
 use Rattle.sets.specs.TestLaws.{not_out, ≤?_in, ≤?_out}
-use Rattle.sets.specs.Tests.{◌&◌, ◌==◌, ◌≤?◌, if◌then◌else◌, ~◌}
+use Rattle.sets.specs.Tests.{◌&◌, ◌=?◌, ◌≤?◌, if?◌then◌else◌, ~◌}
 use Rattle.text.specs.Language.{Name}
 use Rattle.text.specs.Tables.{Table, name_at}
 use Rattle.text.specs.Written.{before, by_name, insert, sorted}
@@ -33,7 +33,7 @@ module _ (t : Table) (n : ℕ) (test : Set) (k best : ℕ) {r : Bool} (e : r ≡
     only_one l = sym (if-true _ _ _ (sym e ∙ not-false _ h) ∙ if-true _ _ _ (≤?_in _ _ l))
 
     module _ (l : best < n) {x y : Name} (p : x ≡ name_at t k) (q : y ≡ name_at t best) {b : Bool} (f : b ≡ before x y) where
-      other : first_with t n test k best ≡ (if before (name_at t k) (name_at t best) then k else best)
+      other : first_with t n test k best ≡ (if? before (name_at t k) (name_at t best) then k else best)
       unfolding first_with
       other =
           if-true _ _ _ (sym e ∙ not-false _ h)
@@ -58,19 +58,19 @@ from_below (suc j) k test x e = kept (test k) (from_below j (suc k) test x) e
   where
     kept : (b : Bool) → (elem x (from j (suc k) test) ≡ true → (suc k ≤ x) × (x < suc k + j))
         → elem x (keep b k (from j (suc k) test)) ≡ true → (k ≤ x) × (x < k + suc j)
-    kept true h q = unfold keep elem in elim (or_out (x == k) (elem x (from j (suc k) test)) q) [
-      | inl z ↦ (let y = ==-out _ _ z in (omega arith, omega arith))
+    kept true h q = unfold keep elem in elim (or_out (x =? k) (elem x (from j (suc k) test)) q) [
+      | inl z ↦ (let y = =?-out _ _ z in (omega arith, omega arith))
       | inr z ↦ (let y = h z in (omega (arith, y.0), omega (arith, y.1)))
     ]
     kept false h q = unfold keep in (let z = h q in (omega (arith, z.0), omega (arith, z.1)))
 
 -- k comes to the numbers of a list that are below n
 inserted : (t : Table) (n k b : ℕ) (l : List ℕ) → ((x : ℕ) → elem x l ≡ true → x < n) → b ≡ first_or n l
-    → (if n ≤? b then k else if before (name_at t k) (name_at t b) then k else b) ≡ first_or n (insert t k l)
+    → (if? n ≤? b then k else if? before (name_at t k) (name_at t b) then k else b) ≡ first_or n (insert t k l)
 unfolding first_or insert elem
 inserted t n k b [] h e = if-true _ _ _ (≤?_in _ _ (omega arith))
 inserted t n k b (x ∷ xs) h e =
-    let z : x < n = h x (or_l _ _ (==-same x)) in
+    let z : x < n = h x (or_l _ _ (=?-same x)) in
     let w : (n ≤? b) ≡ false = fails _ (λ q. let u = ≤?_out _ _ q in absurd (omega arith)) in
     if-false _ _ _ w ∙ elim (bool? (before (name_at t k) (name_at t x))) [
       | inl q ↦ if-true _ _ _ (at ∙ q) ∙ sym (ap (first_or n) (if-true _ _ _ q))
@@ -85,7 +85,7 @@ one_more_lem : (t : Table) (n k : ℕ) (test : Set) (l : List ℕ) (b : ℕ) →
 unfolding first_with keep sorted
 one_more_lem t n k test l b h e = by (test k)
   where
-    by : (c : Bool) → (if c then (if n ≤? b then k else if before (name_at t k) (name_at t b) then k else b) else b)
+    by : (c : Bool) → (if? c then (if? n ≤? b then k else if? before (name_at t k) (name_at t b) then k else b) else b)
         ≡ first_or n (sorted t (keep c k l))
     by true = if-true _ _ _ refl ∙ inserted t n k b (sorted t l) h e
     by false = if-false _ _ _ refl ∙ e
@@ -128,7 +128,7 @@ skip : (j i : ℕ) (test : Set) (h : ℕ) → h < i → from j i (without test h
 unfolding from without
 skip zero i test h l = refl
 skip (suc j) i test h l =
-    ap₂ (λ (b : Bool) (m : List ℕ). keep b i m) (and-true _ _ (not_in _ (==-not i h (λ e. absurd (omega arith)))))
+    ap₂ (λ (b : Bool) (m : List ℕ). keep b i m) (and-true _ _ (not_in _ (=?-not i h (λ e. absurd (omega arith)))))
     (skip j (suc i) test h (omega arith))
 
 module _ (t : Table) (j i : ℕ) (test : Set) (h : ℕ) (m : List ℕ) where
@@ -139,7 +139,7 @@ module _ (t : Table) (j i : ℕ) (test : Set) (h : ℕ) (m : List ℕ) where
   is_first : i ≡ h → sorted t (from j (suc i) test) ≡ m → Left (without test h i)
   unfolding Left without keep
   is_first e f =
-      let z : (~ (i == h) & test i) ≡ false = and-false _ _ (fails _ (λ y. clash {A = ⊥} (==-in i h e) (not_out _ y))) in
+      let z : (~ (i =? h) & test i) ≡ false = and-false _ _ (fails _ (λ y. clash {A = ⊥} (=?-in i h e) (not_out _ y))) in
       ap (λ (c : Bool). sorted t (keep c i (from j (suc i) (without test h)))) z
       ∙ ap (sorted t) (skip j (suc i) test h (omega arith)) ∙ f
 
@@ -147,7 +147,7 @@ module _ (t : Table) (j i : ℕ) (test : Set) (h : ℕ) (m : List ℕ) where
       → Left (without test h i)
   unfolding Left without keep sorted
   comes_later u l xs e f =
-      let z : (~ (i == h) & test i) ≡ true = and_in _ _ (not_in _ (==-not i h (λ y. absurd (omega arith)))) u in
+      let z : (~ (i =? h) & test i) ≡ true = and_in _ _ (not_in _ (=?-not i h (λ y. absurd (omega arith)))) u in
       ap (λ (c : Bool). sorted t (keep c i (from j (suc i) (without test h)))) z ∙ ap (insert t i) e ∙ f
 
   module _ (u : test i ≡ true)
@@ -159,7 +159,7 @@ module _ (t : Table) (j i : ℕ) (test : Set) (h : ℕ) (m : List ℕ) where
       | inl z ↦ (let r = sym (if-true _ _ _ z) ∙ q in is_first (ap (first_or 0) r) (e ∙ ap rest r))
       | inr z ↦ (let r = sym (if-false _ _ _ z) ∙ q in
           let y : x ≡ h = ap (first_or 0) r in
-          let w = sorted_below t j (suc i) test x (ap (elem x) e ∙ or_l _ _ (==-same x)) in
+          let w = sorted_below t j (suc i) test x (ap (elem x) e ∙ or_l _ _ (=?-same x)) in
           comes_later u (omega (arith, w.0)) xs (again xs (e ∙ ap (λ (k : ℕ). k ∷ xs) y)) (ap rest r))
     ]
 
@@ -197,7 +197,7 @@ module _ (t : Table) (n : ℕ) (test : Set) where
 
   pub head_below : (x : ℕ) (xs : List ℕ) → by_name t n test ≡ x ∷ xs → x < n
   unfolding by_name rising elem
-  head_below x xs e = let z = sorted_below t n 0 test x (ap (elem x) e ∙ or_l _ _ (==-same x)) in omega (arith, z.1)
+  head_below x xs e = let z = sorted_below t n 0 test x (ap (elem x) e ∙ or_l _ _ (=?-same x)) in omega (arith, z.1)
 
   head_is : (x : ℕ) (xs : List ℕ) → by_name t n test ≡ x ∷ xs → first_by_name t n test ≡ x
   unfolding first_by_name first_or
@@ -215,7 +215,7 @@ module _ (t : Table) (n : ℕ) (test : Set) where
   pub first_passes : first_by_name t n test < n → test (first_by_name t n test) ≡ true
   unfolding by_name elem
   first_passes h =
-      ((rising-elem n _ test).0 (sym (sorted-elem t _ (rising n test)) ∙ ap (elem _) (first_then h) ∙ or_l _ _ (==-same _))).1
+      ((rising-elem n _ test).0 (sym (sorted-elem t _ (rising n test)) ∙ ap (elem _) (first_then h) ∙ or_l _ _ (=?-same _))).1
 
 -- the next of some numbers is k
 pub next_is : (t : Table) (n k : ℕ) (s s' : Set) → k ≡ first_by_name t n s → k < n → s' ≡ without s k

@@ -9,7 +9,7 @@ use Rattle.seqs.specs.Filled.{filled}
 use Rattle.seqs.specs.FilledLaws.{filled_at, filled-length}
 use Rattle.seqs.specs.RestLaws.{rest_copied}
 use Rattle.sets.specs.TestLaws.{and_in, and_l, and_r, clash, if-false, if-true, iff→≡, ≤?_in, ≤?_out}
-use Rattle.sets.specs.Tests.{◌&◌, ◌≤?◌, if◌then◌else◌}
+use Rattle.sets.specs.Tests.{◌&◌, ◌≤?◌, if?◌then◌else◌}
 use Rattle.text.specs.Bytes.{Text}
 use Rattle.write_bytes.specs.Room.{Puts, written_in}
 use Rattle.write_bytes.specs.declared.Room.{Room}
@@ -126,10 +126,10 @@ pub puts_as : {v w : Text} {p q : Room} {a b : List ℕ} → v ≡ w → Puts v 
 puts_as {p = p} {q = q} {a = a} {b = b} e f = subst (λ (x : Text). Puts x p q a b) e f
 
 pub if-asked : (b : Bool) {w : Text} {p q : Room} {a c : List ℕ} → not b ≡ false → Puts w p q a c
-    → Puts (if b then w else []) p q a c
+    → Puts (if? b then w else []) p q a c
 if-asked b h f = puts_as (sym (if-true _ _ _ (not-false _ h))) f
 
-pub if-not-asked : (b : Bool) (w : Text) {p : Room} {a : List ℕ} → not b ≡ true → Puts (if b then w else []) p p a a
+pub if-not-asked : (b : Bool) (w : Text) {p : Room} {a : List ℕ} → not b ≡ true → Puts (if? b then w else []) p p a a
 if-not-asked b w {p = p} {a = a} h = puts_as (sym (if-false _ _ _ (not-true _ h))) (puts_none p a)
 
 -- ---- a loop

@@ -2,7 +2,7 @@
 use Rattle.std.specs.Prelude.{false, true, List, ◌++◌, ◌≡◌, refl, ℕ, length}
 use Rattle.model.specs.Book.{components, versions}
 use Rattle.seqs.specs.Filled.{filled}
-use Rattle.sets.specs.Tests.{◌≤?◌, if◌then◌else◌}
+use Rattle.sets.specs.Tests.{◌≤?◌, if?◌then◌else◌}
 use Rattle.text.specs.Bytes.{Text, bytes}
 use Rattle.text.specs.Session.{pair_row}
 use Rattle.text.specs.Tables.{name_at}
@@ -11,11 +11,11 @@ use Rattle.write_bytes.specs.declared.Wrote.{Wrote}
 
 -- whether the text fits the slice, and how many bytes are written
 unfoldable pub wrote : Text → List ℕ → Wrote
-wrote w old = if length w ≤? length old then record { fits = true; len = length w } else record { fits = false; len = 0 }
+wrote w old = if? length w ≤? length old then record { fits = true; len = length w } else record { fits = false; len = 0 }
 
 -- the slice then: the bytes past the text, and the whole slice where it does not fit, are untouched
 unfoldable pub starting_with : Text → List ℕ → List ℕ
-starting_with w old = if length w ≤? length old then filled w old else old
+starting_with w old = if? length w ≤? length old then filled w old else old
 
 -- "component and version" by the bytes of the two tables
 unfoldable pub pair_of : List ℕ → List ℕ → ℕ → ℕ → Text

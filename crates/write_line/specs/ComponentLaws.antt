@@ -7,9 +7,9 @@ use Rattle.model.specs.Book.{Book}
 use Rattle.model.specs.Lists.{from, keep, rising}
 use Rattle.sets.specs.Sets.{Set, below, bit, with}
 use Rattle.sets.specs.SetLaws.{bit_zero}
-use Rattle.sets.specs.TestLaws.{<?_in, <?_out, ==-in, ==-out, and-false, and_in, and_l, and_r, and_swap, and-true, fails, if-false, if-true}
+use Rattle.sets.specs.TestLaws.{<?_in, <?_out, =?-in, =?-out, and-false, and_in, and_l, and_r, and_swap, and-true, fails, if-false, if-true}
 use Rattle.sets.specs.TestLaws.{iff→≡, or-false, or_l, or_out, or_r, same?}
-use Rattle.sets.specs.Tests.{◌&◌, ◌<?◌, ◌==◌, ◌or◌, if◌then◌else◌}
+use Rattle.sets.specs.Tests.{◌&◌, ◌<?◌, ◌=?◌, ◌or◌, if?◌then◌else◌}
 use Rattle.text.specs.Bytes.{Text}
 use Rattle.text.specs.Tables.{Table, Tables}
 use Rattle.text.specs.Written.{by_name, sorted}
@@ -35,20 +35,20 @@ set_start a = fun_ext (λ x. bit_zero x ∙ sym (and-false _ _ (fails _ (λ t. l
 pub set_turn : (i : ℕ) (a : Set) {s t : Set} {b : Bool} → s ≡ below i a → b ≡ a i → t ≡ with_if s i b → t ≡ below (i + 1) a
 unfolding below with_if
 set_turn i a {b = b} e f g =
-    g ∙ fun_ext (λ x. ap (λ (r : Set). (x == i & b) or r x) e ∙ ap (λ (c : Bool). (x == i & c) or (x <? i & a x)) f ∙ at x)
+    g ∙ fun_ext (λ x. ap (λ (r : Set). (x =? i & b) or r x) e ∙ ap (λ (c : Bool). (x =? i & c) or (x <? i & a x)) f ∙ at x)
   where
-    at : (x : ℕ) → ((x == i & a i) or (x <? i & a x)) ≡ (x <? (i + 1) & a x)
+    at : (x : ℕ) → ((x =? i & a i) or (x <? i & a x)) ≡ (x <? (i + 1) & a x)
     at x = iff→≡ _ _ there back
       where
-        there : ((x == i & a i) or (x <? i & a x)) ≡ true → (x <? (i + 1) & a x) ≡ true
+        there : ((x =? i & a i) or (x <? i & a x)) ≡ true → (x <? (i + 1) & a x) ≡ true
         there t = elim (or_out _ _ t) [
-          | inl q ↦ (let z = ==-out _ _ (and_l _ _ q) in and_in _ _ (<?_in _ _ (omega arith)) (ap a z ∙ and_r _ _ q))
+          | inl q ↦ (let z = =?-out _ _ (and_l _ _ q) in and_in _ _ (<?_in _ _ (omega arith)) (ap a z ∙ and_r _ _ q))
           | inr q ↦ (let z = <?_out _ _ (and_l _ _ q) in and_in _ _ (<?_in _ _ (omega arith)) (and_r _ _ q))
         ]
 
-        back : (x <? (i + 1) & a x) ≡ true → ((x == i & a i) or (x <? i & a x)) ≡ true
+        back : (x <? (i + 1) & a x) ≡ true → ((x =? i & a i) or (x <? i & a x)) ≡ true
         back t = let z = <?_out _ _ (and_l _ _ t) in elim (same? x i) [
-          | inl q ↦ or_l _ _ (and_in _ _ (==-in _ _ q) (ap a (sym q) ∙ and_r _ _ t))
+          | inl q ↦ or_l _ _ (and_in _ _ (=?-in _ _ q) (ap a (sym q) ∙ and_r _ _ t))
           | inr q ↦ or_r _ _ (and_in _ _ (<?_in _ _ (omega arith)) (and_r _ _ t))
         ]
 
@@ -77,9 +77,9 @@ module _ (b : Book) {k : Kind} where
   has_as i c e f = f ∙ ap (λ (j : Kind). has_line j b c) (sym e)
 
 -- nothing stands between lines
-pub nothing_between : (b : Bool) {w : Text} {p q : Room} {x y : List ℕ} → Puts w p q x y → Puts (w ++ (if b then [] else [])) p q x y
+pub nothing_between : (b : Bool) {w : Text} {p q : Room} {x y : List ℕ} → Puts w p q x y → Puts (w ++ (if? b then [] else [])) p q x y
 nothing_between b {w = w} f = puts_as (sym (append-nil w) ∙ ap (λ (o : Text). w ++ o) (nothing b)) f
   where
-    nothing : (b : Bool) → ◌≡◌ {A = Text} [] (if b then [] else [])
+    nothing : (b : Bool) → ◌≡◌ {A = Text} [] (if? b then [] else [])
     nothing true = sym (if-true _ _ _ refl)
     nothing false = sym (if-false _ _ _ refl)

@@ -3,7 +3,7 @@ use Rattle.std.specs.Prelude.{Bool, ◌++◌, map, ℕ}
 use Rattle.model.specs.Book.{Book, Systems, components, composed, has_version, implementation, is_module, is_system, specified, usable, versions}
 use Rattle.model.specs.Maps.{is_some, or_else}
 use Rattle.sets.specs.Sets.{Set}
-use Rattle.sets.specs.Tests.{◌&◌, ◌==◌, ◌or◌, ◌⇒◌, all, ~◌}
+use Rattle.sets.specs.Tests.{◌&◌, ◌=?◌, ◌or◌, ◌⇒◌, all, ~◌}
 use Rattle.text.specs.Bytes.{Text, bytes}
 use Rattle.text.specs.Tables.{Table, Tables, joined}
 use Rattle.text.specs.Written.{by_name, first_of, line, mod_of, spec_of, sys_of, systems_in_order}
@@ -40,7 +40,7 @@ has_line System b = is_system b.systems
 
 -- a set and the number c, if it is asked for
 unfoldable pub with_if : Set → ℕ → Bool → Set
-with_if s c b x = (x == c & b) or s x
+with_if s c b x = (x =? c & b) or s x
 
 -- ---- the order of systems
 

@@ -3,7 +3,7 @@
 
 ghost use Rattle.std.specs.Prelude.{◌≡◌, [], ◌++◌, ◌<◌};
 ghost use Rattle.sets.specs.Sets.{bit};
-ghost use Rattle.sets.specs.Tests.{if◌then◌else◌};
+ghost use Rattle.sets.specs.Tests.{if?◌then◌else◌};
 ghost use Rattle.text.specs.Bytes.{bytes};
 ghost use Rattle.text.specs.Written.{line, spec_of, mod_of, sys_of};
 ghost use Rattle.names.specs.Stored.{table_of, tables_of};
@@ -62,7 +62,7 @@ fn put_version_and<'a>(
     more: bool,
 ) -> Room
     requires { c < 32 }
-    ensures { Puts (version_of kind (plain_of sets.now numbers.now) (tables_of comps.now vers.now facs.now impls.now) c v ++ (if more then bytes "; " else [])) room result out.old out.new }
+    ensures { Puts (version_of kind (plain_of sets.now numbers.now) (tables_of comps.now vers.now facs.now impls.now) c v ++ (if? more then bytes "; " else [])) room result out.old out.new }
 {
     let a = put_version(
         out, room, sets, numbers, comps, vers, facs, impls, kind, c, v,

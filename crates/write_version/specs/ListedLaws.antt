@@ -5,7 +5,7 @@ use Rattle.std.proofs.Common.{◌∙◌, subst, arith}
 use Rattle.std.proofs.Math.Path.{ap, ap₂, refl, sym}
 use Rattle.sets.specs.Sets.{Set, without}
 use Rattle.sets.specs.TestLaws.{<?_in, <?_out, and_r, fails, if-false, if-true}
-use Rattle.sets.specs.Tests.{◌<?◌, if◌then◌else◌}
+use Rattle.sets.specs.Tests.{◌<?◌, if?◌then◌else◌}
 use Rattle.text.specs.Bytes.{Text}
 use Rattle.text.specs.Tables.{Table}
 use Rattle.text.specs.Written.{by_name, parted}
@@ -58,12 +58,12 @@ module _ {p : Text} {f : ℕ → Text} {t : Table} {n : ℕ} where
           one_more_lem x xs q =
               m ∙ <?_in _ _ (let l = head_below t n s' x xs q in let y : k' ≡ x = e' ∙ ap (first_or n) q in omega arith)
 
-          apart : listed p f t n s ≡ (f k ++ (if b then p else [])) ++ listed p f t n s'
+          apart : listed p f t n s ≡ (f k ++ (if? b then p else [])) ++ listed p f t n s'
           unfolding listed parted
           apart = ap (λ (l : List ℕ). parted p (map f l)) goes_on ∙ by (by_name t n s') refl
             where
               by : (l : List ℕ) → by_name t n s' ≡ l
-                  → parted p (f k ∷ map f (by_name t n s')) ≡ (f k ++ (if b then p else [])) ++ parted p (map f (by_name t n s'))
+                  → parted p (f k ∷ map f (by_name t n s')) ≡ (f k ++ (if? b then p else [])) ++ parted p (map f (by_name t n s'))
               by [] q =
                   ap (λ (l : List ℕ). parted p (f k ∷ map f l)) q ∙ sym (append-nil (f k)) ∙ sym (append-nil (f k ++ []))
                   ∙ ap₂ (λ (o : Text) (l : List ℕ). (f k ++ o) ++ parted p (map f l)) (sym (if-false _ _ _ (no_more q))) (sym q)
@@ -72,7 +72,7 @@ module _ {p : Text} {f : ℕ → Text} {t : Table} {n : ℕ} where
                   ∙ sym (append_assoc (f k) p (parted p (map f (x ∷ xs))))
                   ∙ ap₂ (λ (o : Text) (l : List ℕ). (f k ++ o) ++ parted p (map f l)) (sym (if-true _ _ _ (one_more_lem x xs q))) (sym q)
 
-          pub listing_turn : {r : Room} {c' : List ℕ} → Puts (f k ++ (if b then p else [])) j r c c'
+          pub listing_turn : {r : Room} {c' : List ℕ} → Puts (f k ++ (if? b then p else [])) j r c c'
               → Listing p f t n s₀ s' k' i r a c'
           unfolding without
           listing_turn o = record {

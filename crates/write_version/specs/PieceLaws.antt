@@ -9,7 +9,7 @@ use Rattle.model.specs.Maps.{or_else}
 use Rattle.names.specs.Stored.{table_of, tables_of}
 use Rattle.sets.specs.Sets.{Set}
 use Rattle.sets.specs.TestLaws.{<?_in, <?_out, fails, if-false, if-true}
-use Rattle.sets.specs.Tests.{◌<?◌, if◌then◌else◌}
+use Rattle.sets.specs.Tests.{◌<?◌, if?◌then◌else◌}
 use Rattle.text.specs.Bytes.{Text, bytes, same}
 use Rattle.text.specs.Tables.{Tables, name_at}
 use Rattle.text.specs.Written.{by_name, commas, facility_names, member_piece, members_of, mod_piece, parted, requiring, spec_piece, sys_piece}
@@ -25,11 +25,11 @@ use Rattle.write_bytes.specs.declared.Room.{Room}
 
 -- a name and a comma
 pub name_and : (b : Bool) {v w : Text} {p q r : Room} {x y z : List ℕ} → v ≡ w → Puts v p q x y
-    → Puts (if b then bytes ", " else []) q r y z → Puts (w ++ (if b then bytes ", " else [])) p r x z
+    → Puts (if? b then bytes ", " else []) q r y z → Puts (w ++ (if? b then bytes ", " else [])) p r x z
 name_and b e f g = puts_then (puts_as e f) g
 
 required_text_lem : (facs : List ℕ) (s : Set) (k : ℕ) → k ≡ first_by_name (table_of facilities facs) facilities s
-    → (if k <? facilities then bytes " requires " else []) ++ names_of facs facilities s ≡ required_text facs s
+    → (if? k <? facilities then bytes " requires " else []) ++ names_of facs facilities s ≡ required_text facs s
 unfolding required_text names_of listed first_by_name first_or requiring commas parted
 required_text_lem facs s k e = by (by_name (table_of facilities facs) facilities s) refl
   where
@@ -37,7 +37,7 @@ required_text_lem facs s k e = by (by_name (table_of facilities facs) facilities
     f i = name_at (table_of facilities facs) i
 
     by : (l : List ℕ) → by_name (table_of facilities facs) facilities s ≡ l
-        → (if k <? facilities then bytes " requires " else [])
+        → (if? k <? facilities then bytes " requires " else [])
         ++ parted (bytes ", ") (map f (by_name (table_of facilities facs) facilities s))
         ≡ requiring (map f (by_name (table_of facilities facs) facilities s))
     by [] q =
@@ -52,7 +52,7 @@ required_text_lem facs s k e = by (by_name (table_of facilities facs) facilities
         ∙ ap (λ (l : List ℕ). requiring (map f l)) (sym q)
 
 pub required_is : (facs : List ℕ) (s : Set) (k : ℕ) {p q r : Room} {x y z : List ℕ}
-    → k ≡ first_by_name (table_of facilities facs) facilities s → Puts (if k <? facilities then bytes " requires " else []) p q x y
+    → k ≡ first_by_name (table_of facilities facs) facilities s → Puts (if? k <? facilities then bytes " requires " else []) p q x y
     → Puts (names_of facs facilities s) q r y z → Puts (required_text facs s) p r x z
 required_is facs s k e f g = puts_as (required_text_lem facs s k e) (puts_then f g)
 
@@ -60,12 +60,12 @@ module _ (cs vs fs is : List ℕ) (b : Book) (c v : ℕ) where
   pub spec_version_is : {w u : Text} {k : ℕ} {d : Bool} {s : Set} {p q r t : Room} {x y z o : List ℕ}
       → w ≡ name_at (table_of versions vs) v → k ≡ standard b.specs c → u ≡ name_at (table_of versions vs) k → d ≡ same w u
       → s ≡ requires b.specs c v
-      → Puts (if d then bytes "std " else []) p q x y → Puts w q r y z → Puts (required_text fs s) r t z o
+      → Puts (if? d then bytes "std " else []) p q x y → Puts w q r y z → Puts (required_text fs s) r t z o
       → Puts (spec_version b (tables_of cs vs fs is) c v) p t x o
   unfolding spec_version spec_piece tables_of required_text facility_names
   spec_version_is e f g h i j k l =
       puts_then
-      (puts_as (ap (λ (a : Bool). if a then bytes "std " else []) (h ∙ ap₂ same e (g ∙ ap (name_at (table_of versions vs)) f))) j)
+      (puts_as (ap (λ (a : Bool). if? a then bytes "std " else []) (h ∙ ap₂ same e (g ∙ ap (name_at (table_of versions vs)) f))) j)
       (puts_then (puts_as e k) (puts_as (ap (required_text fs) i) l))
 
   pub mod_version_is : {w u : Text} {i n : ℕ} {p q r s t : Room} {x y z o m : List ℕ} → w ≡ name_at (table_of versions vs) v
@@ -79,8 +79,8 @@ module _ (cs vs fs is : List ℕ) (b : Book) (c v : ℕ) where
 pub member_is : (cs vs fs is : List ℕ) (b : Book) (s v c : ℕ) (more : Bool) {w u : Text} {n : ℕ} {p q r t o : Room}
     {x y z a d : List ℕ} → w ≡ name_at (table_of components cs) c → member b.systems s v c ≡ some n
     → u ≡ name_at (table_of versions vs) n → Puts w p q x y → Puts (bytes ".") q r y z → Puts u r t z a
-    → Puts (if more then bytes ", " else []) t o a d
-    → Puts (member_text b (tables_of cs vs fs is) s v c ++ (if more then bytes ", " else [])) p o x d
+    → Puts (if? more then bytes ", " else []) t o a d
+    → Puts (member_text b (tables_of cs vs fs is) s v c ++ (if? more then bytes ", " else [])) p o x d
 unfolding member_text member_piece tables_of
 member_is cs vs fs is b s v c more e f g h i j k =
     puts_then (puts_then (puts_as e h) (puts_then i (puts_as (g ∙ ap (name_at (table_of versions vs)) (sym (or_at _ _ f))) j))) k
@@ -115,6 +115,6 @@ module _ (b : Book) (t : Tables) (c v : ℕ) {k : Kind} {p q : Room} {x y : List
   sys_version_lem e = puts_as (sym (ap (λ (i : Kind). version_of i b t c v) e))
 
 pub version_and : (k : Kind) (b : Book) (t : Tables) (c v : ℕ) (more : Bool) {p q r : Room} {x y z : List ℕ}
-    → Puts (version_of k b t c v) p q x y → Puts (if more then bytes "; " else []) q r y z
-    → Puts (version_of k b t c v ++ (if more then bytes "; " else [])) p r x z
+    → Puts (version_of k b t c v) p q x y → Puts (if? more then bytes "; " else []) q r y z
+    → Puts (version_of k b t c v ++ (if? more then bytes "; " else [])) p r x z
 version_and k b t c v more f g = puts_then f g

@@ -3,7 +3,7 @@
 
 ghost use Rattle.std.specs.Prelude.{◌≡◌, true, [], ◌++◌, ◌*◌, ◌<◌, ◌≤◌, length};
 ghost use Rattle.sets.specs.Sets.{bit};
-ghost use Rattle.sets.specs.Tests.{if◌then◌else◌};
+ghost use Rattle.sets.specs.Tests.{if?◌then◌else◌};
 ghost use Rattle.text.specs.Bytes.{bytes};
 ghost use Rattle.text.specs.Tables.{name_at};
 ghost use Rattle.names.specs.Stored.{table_of, tables_of};
@@ -24,7 +24,7 @@ pub enum Kind {
 }
 
 pub fn put_if(out: &mut [u8], room: Room, asked: bool, word: &[u8]) -> Room
-    ensures { Puts (if asked then word.now else []) room result out.old out.new }
+    ensures { Puts (if? asked then word.now else []) room result out.old out.new }
 {
     if !asked {
         return room;
@@ -35,7 +35,7 @@ pub fn put_if(out: &mut [u8], room: Room, asked: bool, word: &[u8]) -> Room
 // The name of number k, and a comma where there are more.
 fn put_listed(out: &mut [u8], room: Room, names: &[u8], places: usize, k: usize, more: bool) -> Room
     requires { length names.now ≡ places * 33 }
-    ensures { Puts (name_at (table_of places names.now) k ++ (if more then bytes ", " else [])) room result out.old out.new }
+    ensures { Puts (name_at (table_of places names.now) k ++ (if? more then bytes ", " else [])) room result out.old out.new }
 {
     let a = write_bytes::put(out, room, write_bytes::name(names, places, k));
     put_if(out, a, more, b", ")
@@ -134,7 +134,7 @@ fn put_member<'a>(
 ) -> Room
     requires s_bound { (s < 32) × (c < 32) }
     requires c_value { is_member (systems_of sets.now numbers.now) s v c ≡ true }
-    ensures { Puts (member_text (plain_of sets.now numbers.now) (tables_of comps.now vers.now facs.now impls.now) s v c ++ (if more then bytes ", " else [])) room result out.old out.new }
+    ensures { Puts (member_text (plain_of sets.now numbers.now) (tables_of comps.now vers.now facs.now impls.now) s v c ++ (if? more then bytes ", " else [])) room result out.old out.new }
 {
     let a = write_bytes::put(out, room, write_bytes::name(comps, 32, c));
     let b = write_bytes::put(out, a, b".");

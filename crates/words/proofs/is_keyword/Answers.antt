@@ -1,6 +1,6 @@
 use Rattle.std.proofs.Common.{refl}
 use Rattle.words.specs.Keywords.{keyword_count}
-use Rattle.sets.specs.Tests.{◌≤?◌, if◌then◌else◌}
+use Rattle.sets.specs.Tests.{◌≤?◌, if?◌then◌else◌}
 use Rattle.text.specs.Bytes.{bytes, keywords}
 use Rattle.names.specs.Stored.{before, name_in, table_of, up_to_last}
 use Rattle.words.specs.NameLaws.{held_at}
@@ -14,4 +14,4 @@ holds-requires c =
 pub returns : goal.returns
 returns c =
     held_at keyword_count _ _ _ _ c.requires.k_lt_keyword_count c.holds.ensures keywords
-    (unfold table_of up_to_last before name_in if◌then◌else◌ ◌≤?◌ keywords bytes in refl)
+    (unfold table_of up_to_last before name_in if?◌then◌else◌ ◌≤?◌ keywords bytes in refl)

@@ -1,6 +1,6 @@
 use Rattle.std.specs.Prelude.{not}
 use Rattle.std.proofs.Common.{ap}
-use Rattle.sets.specs.Tests.{◌≤?◌, if◌then◌else◌}
+use Rattle.sets.specs.Tests.{◌≤?◌, if?◌then◌else◌}
 use Rattle.text.specs.Bytes.{bytes, keywords}
 use Rattle.names.specs.Stored.{before, name_in, table_of, up_to_last}
 use Rattle.words.specs.NameLaws.{hash_none}
@@ -13,5 +13,5 @@ pub lookup-requires-clause-word_value : goal.lookup-requires-clause-word_value
 lookup-requires-clause-word_value c = c.requires
 
 pub returns : goal.returns
-unfolding table_of up_to_last before name_in if◌then◌else◌ ◌≤?◌ keywords bytes
+unfolding table_of up_to_last before name_in if?◌then◌else◌ ◌≤?◌ keywords bytes
 returns c = c.lookup.ensures

@@ -1,5 +1,6 @@
 use Rattle.std.specs.Prelude.{not}
 use Rattle.std.proofs.Common.{arith, refl, length, length-take, length-drop, ap}
+use Rattle.seqs.specs.RestLaws.{copied_whole}
 use Rattle.write_bytes.specs.RoomLaws.{put_enough, put_measured, put_miss, put_written}
 use Rattle.write_bytes.proofs.put.Goals as goal
 
@@ -19,4 +20,5 @@ copy-requires c =
     simp (length-take, length-drop) (omega (arith, h, c.if-out-left.false))
 
 pub returns : goal.returns
-returns c = put_written _ _ _ c.still_fits.ensures (ap not c.if-not-still_fits.false) _ _ c.if-out-left.false refl c.copy.ensures.1
+returns c =
+    put_written _ _ _ c.still_fits.ensures (ap not c.if-not-still_fits.false) _ _ c.if-out-left.false refl (copied_whole _ _ _ c.copy.ensures)

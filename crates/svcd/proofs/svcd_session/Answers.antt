@@ -31,7 +31,7 @@ shape_of-out-then-not-l c = leaves_keeps c.list-l.ensures.leaves
 
 pub returns-then-not-l : goal.returns-then-not-l
 returns-then-not-l c =
-    let all_of = too_long_lem _ _ c.if-text-gt-MOST_BYTES.false c.if-out-gt-MOST_BYTES.false c.list-l.ensures.leaves (ap not c.if-not-l.true) in
+    let all_of = too_long_lem _ _ c.if-text-gt-MOST_BYTES.false c.if-out-gt-MOST_BYTES.false c.list-l.ensures.leaves c.if-not-l.true in
     record { value = all_of.0; out_after = all_of.1 }
 
 pub overflow_cast-result : goal.overflow_cast-result
@@ -42,10 +42,10 @@ shape_of-out c = leaves_keeps c.list-l.ensures.leaves
 
 pub returns-clause-value : goal.returns-clause-value
 returns-clause-value c =
-    let l = listed _ _ c.if-text-gt-MOST_BYTES.false c.if-out-gt-MOST_BYTES.false c.list-l.ensures.leaves (ap not c.if-not-l.false) in
+    let l = listed _ _ c.if-text-gt-MOST_BYTES.false c.if-out-gt-MOST_BYTES.false c.list-l.ensures.leaves c.if-not-l.false in
     to_z-of_z (narrow c) ∙ l.0
 
 pub returns-clause-out_after : goal.returns-clause-out_after
 returns-clause-out_after c =
-    let l = listed _ _ c.if-text-gt-MOST_BYTES.false c.if-out-gt-MOST_BYTES.false c.list-l.ensures.leaves (ap not c.if-not-l.false) in
+    let l = listed _ _ c.if-text-gt-MOST_BYTES.false c.if-out-gt-MOST_BYTES.false c.list-l.ensures.leaves c.if-not-l.false in
     l.1

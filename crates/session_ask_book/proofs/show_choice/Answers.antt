@@ -1,5 +1,3 @@
-use Rattle.std.specs.Prelude.{not}
-use Rattle.std.proofs.Common.{ap}
 use Rattle.read_tokens.specs.TakeLaws.{no_answer}
 use Rattle.session_rows.specs.AskedLaws.{choice-answers}
 use Rattle.session_state.specs.CarriedLaws.{unread, was_read}
@@ -12,7 +10,7 @@ pub read_choice-k-requires-clause-at_in_bounds : goal.read_choice-k-requires-cla
 read_choice-k-requires-clause-at_in_bounds c = c.requires.at_in_bounds
 
 pub returns-then-not-k-clause-answers : goal.returns-then-not-k-clause-answers
-returns-then-not-k-clause-answers c = no_answer _ _ _ _ _ _ _ _ c.read_choice-k.ensures (ap not c.if-not-k.true)
+returns-then-not-k-clause-answers c = no_answer _ _ _ _ _ _ _ _ c.read_choice-k.ensures c.if-not-k.true
 
 pub returns-then-not-k-clause-unread : goal.returns-then-not-k-clause-unread
 returns-then-not-k-clause-unread c = unread _ _ _
@@ -21,7 +19,7 @@ pub put_known_choice-after-requires : goal.put_known_choice-after-requires
 put_known_choice-after-requires c = c.requires.ready
 
 pub returns-clause-answers : goal.returns-clause-answers
-returns-clause-answers c = choice-answers _ _ _ _ c.read_choice-k.ensures (ap not c.if-not-k.false) _ c.put_known_choice-after.ensures
+returns-clause-answers c = choice-answers _ _ _ _ c.read_choice-k.ensures c.if-not-k.false _ c.put_known_choice-after.ensures
 
 pub returns-clause-unread : goal.returns-clause-unread
 returns-clause-unread c = was_read

@@ -7,9 +7,11 @@ use Rattle.words.specs.NameLaws.{held_at}
 use Rattle.words.proofs.is_keyword.Goals as goal
 
 pub holds-requires : goal.holds-requires
-holds-requires c =
-    let all_of = (refl, (c.requires.k_lt_keyword_count, c.requires.word_value)) in
-    record { names_len = all_of.0; k_lt_places = all_of.1.0; word_value = all_of.1.1 }
+holds-requires c = record {
+  names_len = refl;
+  k_lt_places = c.requires.k_lt_keyword_count;
+  word_value = c.requires.word_value;
+}
 
 pub returns : goal.returns
 returns c =

@@ -1,4 +1,4 @@
-use Rattle.std.proofs.Common.{zero-le, ap, sym}
+use Rattle.std.proofs.Common.{arith, ap, sym}
 use Rattle.read_command.specs.FormLaws.{no_form, not_below}
 use Rattle.read_command.specs.Forms.{form_of, forms}
 use Rattle.read_command.proofs.form_of.Goals as goal
@@ -116,4 +116,4 @@ unfolding form_of forms
 returns-in-27 c = ap form_of (sym c.in-27.is)
 
 pub returns-in_default : goal.returns-in_default
-returns-in_default c = no_form _ (not_below 27 _ (not_below 26 _ (not_below 25 _ (not_below 24 _ (not_below 23 _ (not_below 22 _ (not_below 21 _ (not_below 20 _ (not_below 19 _ (not_below 18 _ (not_below 17 _ (not_below 16 _ (not_below 15 _ (not_below 14 _ (not_below 13 _ (not_below 12 _ (not_below 11 _ (not_below 10 _ (not_below 9 _ (not_below 8 _ (not_below 7 _ (not_below 6 _ (not_below 5 _ (not_below 4 _ (not_below 3 _ (not_below 2 _ (not_below 1 _ (not_below 0 _ (zero-le) c.in_default.rest.0.0.0.0.0.0.0.0.0.0.0.0.0.0.0.0.0.0.0.0.0.0.0.0.0.0.0.1) c.in_default.rest.0.0.0.0.0.0.0.0.0.0.0.0.0.0.0.0.0.0.0.0.0.0.0.0.0.0.1) c.in_default.rest.0.0.0.0.0.0.0.0.0.0.0.0.0.0.0.0.0.0.0.0.0.0.0.0.0.1) c.in_default.rest.0.0.0.0.0.0.0.0.0.0.0.0.0.0.0.0.0.0.0.0.0.0.0.0.1) c.in_default.rest.0.0.0.0.0.0.0.0.0.0.0.0.0.0.0.0.0.0.0.0.0.0.0.1) c.in_default.rest.0.0.0.0.0.0.0.0.0.0.0.0.0.0.0.0.0.0.0.0.0.0.1) c.in_default.rest.0.0.0.0.0.0.0.0.0.0.0.0.0.0.0.0.0.0.0.0.0.1) c.in_default.rest.0.0.0.0.0.0.0.0.0.0.0.0.0.0.0.0.0.0.0.0.1) c.in_default.rest.0.0.0.0.0.0.0.0.0.0.0.0.0.0.0.0.0.0.0.1) c.in_default.rest.0.0.0.0.0.0.0.0.0.0.0.0.0.0.0.0.0.0.1) c.in_default.rest.0.0.0.0.0.0.0.0.0.0.0.0.0.0.0.0.0.1) c.in_default.rest.0.0.0.0.0.0.0.0.0.0.0.0.0.0.0.0.1) c.in_default.rest.0.0.0.0.0.0.0.0.0.0.0.0.0.0.0.1) c.in_default.rest.0.0.0.0.0.0.0.0.0.0.0.0.0.0.1) c.in_default.rest.0.0.0.0.0.0.0.0.0.0.0.0.0.1) c.in_default.rest.0.0.0.0.0.0.0.0.0.0.0.0.1) c.in_default.rest.0.0.0.0.0.0.0.0.0.0.0.1) c.in_default.rest.0.0.0.0.0.0.0.0.0.0.1) c.in_default.rest.0.0.0.0.0.0.0.0.0.1) c.in_default.rest.0.0.0.0.0.0.0.0.1) c.in_default.rest.0.0.0.0.0.0.0.1) c.in_default.rest.0.0.0.0.0.0.1) c.in_default.rest.0.0.0.0.0.1) c.in_default.rest.0.0.0.0.1) c.in_default.rest.0.0.0.1) c.in_default.rest.0.0.1) c.in_default.rest.0.1) c.in_default.rest.1)
+returns-in_default c = no_form _ (omega (arith, c.in_default))

@@ -1,5 +1,3 @@
-use Rattle.std.specs.Prelude.{not}
-use Rattle.std.proofs.Common.{ap}
 use Rattle.read_tokens.specs.TakeLaws.{kept_same}
 use Rattle.read_tokens.specs.ProductionLaws.{there_inside}
 use Rattle.read_tokens.specs.ModLaws.{mod_no_name, mod_no_mark, mod_no_versions, mod_no_end, mod_asked}
@@ -19,11 +17,11 @@ returns-then-not-c-clause-kept_6 c = c.requires.kept_3
 
 -- src/lib.rt:661:9
 pub returns-then-not-c-clause-by_index : goal.returns-then-not-c-clause-by_index
-returns-then-not-c-clause-by_index c = λ f. mod_no_name _ _ _ _ _ c.take_name-c.ensures.answers _ _ _ c.no_mod_request.ensures (ap not c.if-not-c.true)
+returns-then-not-c-clause-by_index c = λ f. mod_no_name _ _ _ _ _ c.take_name-c.ensures.answers _ _ _ c.no_mod_request.ensures c.if-not-c.true
 
 -- src/lib.rt:664:9
 pub want_mark-k-requires : goal.want_mark-k-requires
-want_mark-k-requires c = there_inside _ _ _ _ _ _ c.take_name-c.ensures.answers (ap not c.if-not-c.false)
+want_mark-k-requires c = there_inside _ _ _ _ _ _ c.take_name-c.ensures.answers c.if-not-c.false
 
 -- src/lib.rt:666:9
 pub returns-then-not-k-clause-kept_4 : goal.returns-then-not-k-clause-kept_4
@@ -39,7 +37,9 @@ returns-then-not-k-clause-kept_6 c = c.requires.kept_3
 
 -- src/lib.rt:666:9
 pub returns-then-not-k-clause-by_index : goal.returns-then-not-k-clause-by_index
-returns-then-not-k-clause-by_index c = λ f. mod_no_mark _ _ _ _ _ c.take_name-c.ensures.answers _ (ap not c.if-not-c.false) _ _ c.want_mark-k.ensures _ _ c.no_mod_request-then-not-k.ensures (ap not c.if-not-k.true)
+returns-then-not-k-clause-by_index c =
+    λ f. mod_no_mark _ _ _ _ _ c.take_name-c.ensures.answers _ c.if-not-c.false _ _ c.want_mark-k.ensures _ _
+    c.no_mod_request-then-not-k.ensures c.if-not-k.true
 
 -- src/lib.rt:669:9
 pub take_mod_versions-v-requires-clause-kept : goal.take_mod_versions-v-requires-clause-kept
@@ -51,7 +51,7 @@ take_mod_versions-v-requires-clause-kept_2 c = c.requires.kept_3
 
 -- src/lib.rt:669:9
 pub take_mod_versions-v-requires-clause-at_in_bounds : goal.take_mod_versions-v-requires-clause-at_in_bounds
-take_mod_versions-v-requires-clause-at_in_bounds c = there_inside _ _ _ _ _ _ c.want_mark-k.ensures (ap not c.if-not-k.false)
+take_mod_versions-v-requires-clause-at_in_bounds c = there_inside _ _ _ _ _ _ c.want_mark-k.ensures c.if-not-k.false
 
 -- src/lib.rt:671:9
 pub shape_of-comps-then-not-v : goal.shape_of-comps-then-not-v
@@ -71,11 +71,13 @@ returns-then-not-v-clause-kept_6 c = c.take_mod_versions-v.ensures.kept_4
 
 -- src/lib.rt:671:9
 pub returns-then-not-v-clause-by_index : goal.returns-then-not-v-clause-by_index
-returns-then-not-v-clause-by_index c = λ f. mod_no_versions _ _ _ _ _ c.take_name-c.ensures.answers _ (ap not c.if-not-c.false) _ _ c.want_mark-k.ensures (ap not c.if-not-k.false) _ _ _ c.take_mod_versions-v.ensures.answers _ _ c.no_mod_request-then-not-v.ensures (ap not c.if-not-v.true)
+returns-then-not-v-clause-by_index c =
+    λ f. mod_no_versions _ _ _ _ _ c.take_name-c.ensures.answers _ c.if-not-c.false _ _ c.want_mark-k.ensures c.if-not-k.false _ _ _
+    c.take_mod_versions-v.ensures.answers _ _ c.no_mod_request-then-not-v.ensures c.if-not-v.true
 
 -- src/lib.rt:674:9
 pub want_key-m-requires-clause-at_in_bounds : goal.want_key-m-requires-clause-at_in_bounds
-want_key-m-requires-clause-at_in_bounds c = there_inside _ _ _ _ _ _ c.take_mod_versions-v.ensures.answers (ap not c.if-not-v.false)
+want_key-m-requires-clause-at_in_bounds c = there_inside _ _ _ _ _ _ c.take_mod_versions-v.ensures.answers c.if-not-v.false
 
 -- src/lib.rt:676:9
 pub shape_of-comps-then-not-m : goal.shape_of-comps-then-not-m
@@ -95,7 +97,9 @@ returns-then-not-m-clause-kept_6 c = c.take_mod_versions-v.ensures.kept_4
 
 -- src/lib.rt:676:9
 pub returns-then-not-m-clause-by_index : goal.returns-then-not-m-clause-by_index
-returns-then-not-m-clause-by_index c = λ f. mod_no_end _ _ _ _ _ c.take_name-c.ensures.answers _ (ap not c.if-not-c.false) _ _ c.want_mark-k.ensures (ap not c.if-not-k.false) _ _ _ c.take_mod_versions-v.ensures.answers (ap not c.if-not-v.false) _ _ c.want_key-m.ensures _ _ c.no_mod_request-then-not-m.ensures (ap not c.if-not-m.true)
+returns-then-not-m-clause-by_index c =
+    λ f. mod_no_end _ _ _ _ _ c.take_name-c.ensures.answers _ c.if-not-c.false _ _ c.want_mark-k.ensures c.if-not-k.false _ _ _
+    c.take_mod_versions-v.ensures.answers c.if-not-v.false _ _ c.want_key-m.ensures _ _ c.no_mod_request-then-not-m.ensures c.if-not-m.true
 
 -- src/lib.rt:649:1
 pub shape_of-comps : goal.shape_of-comps
@@ -115,4 +119,7 @@ returns-clause-kept_6 c = c.take_mod_versions-v.ensures.kept_4
 
 -- src/lib.rt:649:1
 pub returns-clause-by_index : goal.returns-clause-by_index
-returns-clause-by_index c = mod_asked _ _ _ _ _ _ _ _ _ _ _ _ _ _ _ _ _ _ _ _ _ c.no_mod_versions.ensures c.take_name-c.ensures.answers (ap not c.if-not-c.false) c.want_mark-k.ensures (ap not c.if-not-k.false) c.take_mod_versions-v.ensures.answers (ap not c.if-not-v.false) c.want_key-m.ensures (ap not c.if-not-m.false) c.mod_request.ensures
+returns-clause-by_index c =
+    mod_asked _ _ _ _ _ _ _ _ _ _ _ _ _ _ _ _ _ _ _ _ _ c.no_mod_versions.ensures c.take_name-c.ensures.answers c.if-not-c.false
+    c.want_mark-k.ensures c.if-not-k.false c.take_mod_versions-v.ensures.answers c.if-not-v.false c.want_key-m.ensures c.if-not-m.false
+    c.mod_request.ensures

@@ -1,5 +1,4 @@
-use Rattle.std.specs.Prelude.{not}
-use Rattle.std.proofs.Common.{arith, rules, ap}
+use Rattle.std.proofs.Common.{arith, rules}
 use Rattle.read_tokens.specs.TakeLaws.{no_answer, part_span, part_taken, part_read, imp_short}
 use Rattle.read_names.proofs.take_imp.Goals as goal
 
@@ -17,7 +16,7 @@ enter_part-n-requires-clause-e_value c = search (rules, imp_short)
 
 -- src/lib.rt:186:31
 pub overflow_add-result : goal.overflow_add-result
-overflow_add-result c = let h = part_read _ _ _ _ _ _ _ c.read_imp-w.ensures (ap not c.if-not-w.false) in omega arith
+overflow_add-result c = let h = part_read _ _ _ _ _ _ _ c.read_imp-w.ensures c.if-not-w.false in omega arith
 
 -- src/lib.rt:173:1
 pub returns-clause-answers : goal.returns-clause-answers

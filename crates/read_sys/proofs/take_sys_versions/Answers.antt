@@ -1,5 +1,4 @@
-use Rattle.std.specs.Prelude.{not}
-use Rattle.std.proofs.Common.{rules, ap}
+use Rattle.std.proofs.Common.{rules}
 use Rattle.text_laws.specs.Takes.{sys_version_takes}
 use Rattle.read_tokens.specs.ListLaws.{leads_start, leads_wrong, leads_inside, leads_last, leads_less, leads_on}
 use Rattle.read_tokens.specs.TakeLaws.{kept_same}
@@ -27,11 +26,13 @@ returns-then-not-n-clause-kept_4 c = c.take_sys_version-n.ensures.kept_4
 
 -- src/lib.rt:1099:13
 pub returns-then-not-n-clause-answers : goal.returns-then-not-n-clause-answers
-returns-then-not-n-clause-answers c = leads_wrong _ _ _ sys_version_takes _ _ _ _ _ _ _ _ c.loop-n.invariant.0 c.take_sys_version-n.ensures.answers _ _ (ap not c.if-not-n.true)
+returns-then-not-n-clause-answers c =
+    leads_wrong _ _ _ sys_version_takes _ _ _ _ _ _ _ _ c.loop-n.invariant.0 c.take_sys_version-n.ensures.answers _ _ c.if-not-n.true
 
 -- src/lib.rt:1102:13
 pub want_mark-m-requires : goal.want_mark-m-requires
-want_mark-m-requires c = leads_inside _ _ _ sys_version_takes _ _ _ _ _ _ _ _ c.loop-n.invariant.0 c.take_sys_version-n.ensures.answers (ap not c.if-not-n.false)
+want_mark-m-requires c =
+    leads_inside _ _ _ sys_version_takes _ _ _ _ _ _ _ _ c.loop-n.invariant.0 c.take_sys_version-n.ensures.answers c.if-not-n.false
 
 -- src/lib.rt:1104:13
 pub shape_of-comps-then-not-m : goal.shape_of-comps-then-not-m
@@ -51,12 +52,21 @@ returns-then-not-m-clause-kept_4 c = c.take_sys_version-n.ensures.kept_4
 
 -- src/lib.rt:1104:13
 pub returns-then-not-m-clause-answers : goal.returns-then-not-m-clause-answers
-returns-then-not-m-clause-answers c = leads_last _ _ _ sys_version_takes _ _ _ _ _ _ _ _ c.loop-n.invariant.0 c.take_sys_version-n.ensures.answers (ap not c.if-not-n.false) _ _ c.want_mark-m.ensures (ap not c.if-not-m.true)
+returns-then-not-m-clause-answers c =
+    leads_last _ _ _ sys_version_takes _ _ _ _ _ _ _ _ c.loop-n.invariant.0 c.take_sys_version-n.ensures.answers c.if-not-n.false _ _
+    c.want_mark-m.ensures c.if-not-m.true
 
 -- src/lib.rt:1096:5
 pub loop-n-smaller : goal.loop-n-smaller
-loop-n-smaller c = let l = leads_less _ _ _ sys_version_takes _ _ _ _ _ _ _ _ c.loop-n.invariant.0 c.take_sys_version-n.ensures.answers (ap not c.if-not-n.false) _ _ c.want_mark-m.ensures (ap not c.if-not-m.false) in search rules
+loop-n-smaller c =
+    let l = leads_less _ _ _ sys_version_takes _ _ _ _ _ _ _ _ c.loop-n.invariant.0 c.take_sys_version-n.ensures.answers c.if-not-n.false _
+    _ c.want_mark-m.ensures c.if-not-m.false in search rules
 
 -- src/lib.rt:1096:5
 pub loop-n-preserved : goal.loop-n-preserved
-loop-n-preserved c = (leads_on _ _ _ sys_version_takes _ _ _ _ _ _ _ _ c.loop-n.invariant.0 c.take_sys_version-n.ensures.answers (ap not c.if-not-n.false) _ _ c.want_mark-m.ensures (ap not c.if-not-m.false), c.take_sys_version-n.ensures.kept_3, c.take_sys_version-n.ensures.kept_4)
+loop-n-preserved c = (
+  leads_on _ _ _ sys_version_takes _ _ _ _ _ _ _ _ c.loop-n.invariant.0 c.take_sys_version-n.ensures.answers c.if-not-n.false _ _
+      c.want_mark-m.ensures c.if-not-m.false,
+  c.take_sys_version-n.ensures.kept_3,
+  c.take_sys_version-n.ensures.kept_4,
+)

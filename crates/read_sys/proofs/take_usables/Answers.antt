@@ -1,5 +1,4 @@
-use Rattle.std.specs.Prelude.{not}
-use Rattle.std.proofs.Common.{rules, ap}
+use Rattle.std.proofs.Common.{rules}
 use Rattle.text_laws.specs.Takes.{name_takes}
 use Rattle.read_tokens.specs.ListLaws.{leads_start, leads_wrong, leads_inside, leads_last, leads_less, leads_on}
 use Rattle.read_tokens.specs.TakeLaws.{kept_same}
@@ -19,11 +18,12 @@ returns-then-not-n-clause-kept_2 c = c.take_usable-n.ensures.kept_2
 
 -- src/lib.rt:1020:13
 pub returns-then-not-n-clause-answers : goal.returns-then-not-n-clause-answers
-returns-then-not-n-clause-answers c = leads_wrong _ _ _ name_takes _ _ _ _ _ _ _ _ c.loop-n.invariant.0 c.take_usable-n.ensures.answers _ _ (ap not c.if-not-n.true)
+returns-then-not-n-clause-answers c =
+    leads_wrong _ _ _ name_takes _ _ _ _ _ _ _ _ c.loop-n.invariant.0 c.take_usable-n.ensures.answers _ _ c.if-not-n.true
 
 -- src/lib.rt:1023:13
 pub want_mark-m-requires : goal.want_mark-m-requires
-want_mark-m-requires c = leads_inside _ _ _ name_takes _ _ _ _ _ _ _ _ c.loop-n.invariant.0 c.take_usable-n.ensures.answers (ap not c.if-not-n.false)
+want_mark-m-requires c = leads_inside _ _ _ name_takes _ _ _ _ _ _ _ _ c.loop-n.invariant.0 c.take_usable-n.ensures.answers c.if-not-n.false
 
 -- src/lib.rt:1025:13
 pub shape_of-comps-then-not-m : goal.shape_of-comps-then-not-m
@@ -35,12 +35,20 @@ returns-then-not-m-clause-kept_2 c = c.take_usable-n.ensures.kept_2
 
 -- src/lib.rt:1025:13
 pub returns-then-not-m-clause-answers : goal.returns-then-not-m-clause-answers
-returns-then-not-m-clause-answers c = leads_last _ _ _ name_takes _ _ _ _ _ _ _ _ c.loop-n.invariant.0 c.take_usable-n.ensures.answers (ap not c.if-not-n.false) _ _ c.want_mark-m.ensures (ap not c.if-not-m.true)
+returns-then-not-m-clause-answers c =
+    leads_last _ _ _ name_takes _ _ _ _ _ _ _ _ c.loop-n.invariant.0 c.take_usable-n.ensures.answers c.if-not-n.false _ _
+    c.want_mark-m.ensures c.if-not-m.true
 
 -- src/lib.rt:1017:5
 pub loop-n-smaller : goal.loop-n-smaller
-loop-n-smaller c = let l = leads_less _ _ _ name_takes _ _ _ _ _ _ _ _ c.loop-n.invariant.0 c.take_usable-n.ensures.answers (ap not c.if-not-n.false) _ _ c.want_mark-m.ensures (ap not c.if-not-m.false) in search rules
+loop-n-smaller c =
+    let l = leads_less _ _ _ name_takes _ _ _ _ _ _ _ _ c.loop-n.invariant.0 c.take_usable-n.ensures.answers c.if-not-n.false _ _
+    c.want_mark-m.ensures c.if-not-m.false in search rules
 
 -- src/lib.rt:1017:5
 pub loop-n-preserved : goal.loop-n-preserved
-loop-n-preserved c = (leads_on _ _ _ name_takes _ _ _ _ _ _ _ _ c.loop-n.invariant.0 c.take_usable-n.ensures.answers (ap not c.if-not-n.false) _ _ c.want_mark-m.ensures (ap not c.if-not-m.false), c.take_usable-n.ensures.kept_2)
+loop-n-preserved c = (
+  leads_on _ _ _ name_takes _ _ _ _ _ _ _ _ c.loop-n.invariant.0 c.take_usable-n.ensures.answers c.if-not-n.false _ _
+      c.want_mark-m.ensures c.if-not-m.false,
+  c.take_usable-n.ensures.kept_2,
+)

@@ -19,7 +19,7 @@ use Rattle.model.specs.Questions.{each_below}
 use Rattle.command_lists.specs.Views.{sets_view}
 use Rattle.sets.specs.Sets.{Set, bit}
 use Rattle.sets.specs.TestLaws.{and_l, and_r, and_swap, and-true, ≤?_in}
-use Rattle.sets.specs.Tests.{◌&◌, ◌≤?◌}
+use Rattle.sets.specs.Tests.{◌&◌}
 use Rattle.text.specs.Bytes.{Text, bytes, keywords}
 use Rattle.text.specs.Language.{Name, Reader, SPEC, Said, ◌>>=◌, ◌>>◌, add_spec, give, key, list_of, name, names_up_to, semicolon, spec_version}
 use Rattle.text.specs.Language.{standards, the_one, want}

@@ -1,5 +1,5 @@
 use Rattle.std.proofs.Common.{arith, ap, sym}
-use Rattle.read_command.specs.FormLaws.{no_form, not_below}
+use Rattle.read_command.specs.FormLaws.{no_form}
 use Rattle.read_command.specs.Forms.{form_of, forms}
 use Rattle.read_command.proofs.form_of.Goals as goal
 

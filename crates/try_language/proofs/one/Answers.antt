@@ -1,10 +1,8 @@
-use Rattle.std.specs.Prelude.{not}
-use Rattle.std.proofs.Common.{ap}
 use Rattle.try_language.specs.InsideLaws.{one_within, one_inside}
 use Rattle.try_language.proofs.one.Goals as goal
 
 pub part-requires : goal.part-requires
-part-requires c = one_within _ _ _ _ _ c.read_one-r.ensures (ap not c.if-not-r.false)
+part-requires c = one_within _ _ _ _ _ c.read_one-r.ensures c.if-not-r.false
 
 pub returns : goal.returns
-returns c = one_inside _ _ _ _ _ c.read_one-r.ensures (ap not c.if-not-r.false)
+returns c = one_inside _ _ _ _ _ c.read_one-r.ensures c.if-not-r.false

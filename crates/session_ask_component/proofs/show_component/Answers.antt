@@ -1,5 +1,3 @@
-use Rattle.std.specs.Prelude.{not}
-use Rattle.std.proofs.Common.{ap}
 use Rattle.read_tokens.specs.TakeLaws.{no_answer}
 use Rattle.read_command.specs.Forms.{asked_of}
 use Rattle.session_rows.specs.AskedLaws.{one_answers, one_short, one_span}

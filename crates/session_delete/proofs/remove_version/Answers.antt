@@ -1,5 +1,3 @@
-use Rattle.std.specs.Prelude.{not}
-use Rattle.std.proofs.Common.{ap}
 use Rattle.read_tokens.specs.TakeLaws.{no_answer}
 use Rattle.session_state.specs.CarriedLaws.{undecided, was_decided}
 use Rattle.session_delete.specs.KeepLaws.{ready_on}

@@ -1,5 +1,3 @@
-use Rattle.std.specs.Prelude.{not}
-use Rattle.std.proofs.Common.{ap}
 use Rattle.session_step.specs.StepLaws.{behind_shown, behind_unshown}
 use Rattle.session_step.proofs.ask.Goals as goal
 

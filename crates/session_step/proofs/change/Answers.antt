@@ -1,5 +1,3 @@
-use Rattle.std.specs.Prelude.{not}
-use Rattle.std.proofs.Common.{ap}
 use borrow.Author.Tests.{not-true}
 use Rattle.session_step.specs.StepLaws.{behind_decided, behind_unread}
 use Rattle.session_step.proofs.change.Goals as goal

@@ -15,6 +15,9 @@ import sys
 HERE = os.path.dirname(os.path.realpath(__file__))
 # Two operators of crate sets stood under the names of operators of the library: their words, in specs and proofs, and the test in a clause.
 OPERATORS = {"◌==◌": "◌=?◌", "==": "=?", "if◌then◌else◌": "if?◌then◌else◌", "if": "if?"}
+# Constructors of Call, in the files that have them; model/specs/Answers.antt gives its lists of lines names of the same spelling.
+CALLS = {a + k: f"{a}_{k.lower()}" for a in ("add", "del") for k in ("Spec", "Mod", "Sys", "Modvar", "Sysvar")}
+OF_CALLS = ("command_outcome/specs/Calls.antt", "demand_3/specs/NumberedLaws.antt", "try_demand_3/specs/Lesson.antt", "try_demand_3/src/main.rt", "commands/src/lib.rt")
 WORD = re.compile(r'[^\s(){}.;,@"«»\[\]\\|]+')
 PIECE = re.compile(r'"(?:[^"\\\n]|\\.)*"|--[^\n]*|//[^\n]*|[^\s(){}.;,@"«»\[\]\\|]+|.', re.S)
 
@@ -138,7 +141,8 @@ def main(root):
             continue
         with open(path, encoding="utf-8") as f:
             text = f.read()
-        new = edit(text, names) if kind is None else turn(text, names, kind)
+        own = names | CALLS if path.endswith(OF_CALLS) else names
+        new = edit(text, names) if kind is None else turn(text, own, kind)
         if kind == "rt":
             new = tests_of_clauses(new)
         if new != text:

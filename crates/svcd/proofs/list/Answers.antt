@@ -1,4 +1,3 @@
-use Rattle.std.specs.Prelude.{not}
 use Rattle.std.proofs.Common.{◌∙◌, ap, length}
 use lib.ListN.{length-replicate}
 use Rattle.svcd.specs.LeavesLaws.{left_all, left_inside, left_none}
@@ -17,10 +16,10 @@ pub returns-then-not-room-clause-ready : goal.returns-then-not-room-clause-ready
 returns-then-not-room-clause-ready c = c.clear_state-then-not-room.ensures.ready
 
 pub returns-then-not-room-clause-leaves : goal.returns-then-not-room-clause-leaves
-returns-then-not-room-clause-leaves c = left_none c.run-room.ensures.ran (ap not c.if-not-room.true) c.clear_state-then-not-room.ensures.impls_after c.clear.ensures
+returns-then-not-room-clause-leaves c = left_none c.run-room.ensures.ran c.if-not-room.true c.clear_state-then-not-room.ensures.impls_after c.clear.ensures
 
 pub overflow_sub-result : goal.overflow_sub-result
-overflow_sub-result c = left_inside c.run-room.ensures.ran (ap not c.if-not-room.false)
+overflow_sub-result c = left_inside c.run-room.ensures.ran c.if-not-room.false
 
 pub shape_of-out : goal.shape_of-out
 shape_of-out c = c.run-room.ensures.ran.puts.keeps
@@ -29,4 +28,4 @@ pub returns-clause-ready : goal.returns-clause-ready
 returns-clause-ready c = c.run-room.ensures.ready_2
 
 pub returns-clause-leaves : goal.returns-clause-leaves
-returns-clause-leaves c = left_all c.run-room.ensures.ran (ap not c.if-not-room.false)
+returns-clause-leaves c = left_all c.run-room.ensures.ran c.if-not-room.false

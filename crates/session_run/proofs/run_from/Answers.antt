@@ -1,5 +1,4 @@
-use Rattle.std.specs.Prelude.{not}
-use Rattle.std.proofs.Common.{arith, ◌∙◌, ap}
+use Rattle.std.proofs.Common.{arith, ◌∙◌}
 use Rattle.write_bytes.specs.RoomLaws.{partly_keeps}
 use Rattle.session_run.specs.RanLaws.{forward, on_rest, ran, step_fits, running_less, running_on, running_start}
 use Rattle.session_run.proofs.run_from.Goals as goal
@@ -20,16 +19,16 @@ pub returns-then-not-s-clause-ready_2 : goal.returns-then-not-s-clause-ready_2
 returns-then-not-s-clause-ready_2 c = c.step-s.ensures.ready
 
 pub returns-then-not-s-clause-ran : goal.returns-then-not-s-clause-ran
-returns-then-not-s-clause-ran c = ran c.loop-s.invariant.1 (on_rest c.rest_of-rest.ensures c.step-s.ensures.stepped) (ap not c.if-not-s.true)
+returns-then-not-s-clause-ran c = ran c.loop-s.invariant.1 (on_rest c.rest_of-rest.ensures c.step-s.ensures.stepped) c.if-not-s.true
 
 pub position_behind-next-requires : goal.position_behind-next-requires
-position_behind-next-requires c = (forward c.loop-s.invariant.1 (on_rest c.rest_of-rest.ensures c.step-s.ensures.stepped) (ap not c.if-not-s.false)).1
+position_behind-next-requires c = (forward c.loop-s.invariant.1 (on_rest c.rest_of-rest.ensures c.step-s.ensures.stepped) c.if-not-s.false).1
 
 pub overflow_add-i : goal.overflow_add-i
-overflow_add-i c = let f = step_fits c.loop-s.invariant.1 (on_rest c.rest_of-rest.ensures c.step-s.ensures.stepped) (ap not c.if-not-s.false) c.well_formed.0.1 in omega (arith, f)
+overflow_add-i c = let f = step_fits c.loop-s.invariant.1 (on_rest c.rest_of-rest.ensures c.step-s.ensures.stepped) c.if-not-s.false c.well_formed.0.1 in omega (arith, f)
 
 pub loop-s-smaller : goal.loop-s-smaller
-loop-s-smaller c = running_less c.loop-s.invariant.1 (on_rest c.rest_of-rest.ensures c.step-s.ensures.stepped) c.position_behind-next.ensures (ap not c.if-not-s.false)
+loop-s-smaller c = running_less c.loop-s.invariant.1 (on_rest c.rest_of-rest.ensures c.step-s.ensures.stepped) c.position_behind-next.ensures c.if-not-s.false
 
 pub loop-s-preserved : goal.loop-s-preserved
-loop-s-preserved c = (c.step-s.ensures.ready, running_on c.loop-s.invariant.1 (on_rest c.rest_of-rest.ensures c.step-s.ensures.stepped) c.position_behind-next.ensures (ap not c.if-not-s.false))
+loop-s-preserved c = (c.step-s.ensures.ready, running_on c.loop-s.invariant.1 (on_rest c.rest_of-rest.ensures c.step-s.ensures.stepped) c.position_behind-next.ensures c.if-not-s.false)

@@ -1,4 +1,3 @@
-use Rattle.std.specs.Prelude.{not}
 use Rattle.std.proofs.Common.{◌∙◌, ap, length}
 use lib.ListN.{length-replicate}
 use Rattle.svcd.specs.LeavesLaws.{left_all, left_inside, left_none}

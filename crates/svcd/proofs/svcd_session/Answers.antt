@@ -1,14 +1,17 @@
-use Rattle.std.specs.Prelude.{not}
+use Rattle.std.specs.Prelude.{Bool, false, not, List, ◌≡◌, ◌≤◌, ℕ}
 use Rattle.std.proofs.Common.{◌∙◌, ap, arith, pos, to_z-of_z, w32, SFits, length}
 use lib.ListN.{length-replicate}
+use Rattle.text.specs.Bytes.{Text}
+use Rattle.text.specs.LentSlice.{most_bytes}
+use Rattle.text.specs.Session.{State}
+use Rattle.svcd.specs.Reached.{Leaves}
 use Rattle.svcd.specs.LeavesLaws.{leaves_keeps, leaves_short, listed, long_slice, long_text, too_long_lem}
 use Rattle.svcd.proofs.svcd_session.Goals as goal
 
 -- the length fits an i32
-narrow : (c : tie.After-struct-known2) → SFits w32 (pos c.before.before.before.before.before.list.result.len)
-narrow c =
-    let n = leaves_short c.before.before.before.before.before.list.ensures.1 c.before.if3.false in
-    record { sfits = omega (arith, n, c.before.before.before.before.before.before.before.before.before.before.before.before.before.if2.false) }
+narrow : {t : Text} {old new : List ℕ} {fits : Bool} {n : ℕ} {s : State} → Leaves t old new fits n s → length old ≤ most_bytes
+    → not fits ≡ false → SFits w32 (pos n)
+narrow l g h = let n = leaves_short l h in record { sfits = omega (arith, n, g) }
 
 pub shape_of-out-then-text-gt-MOST_BYTES : goal.shape_of-out-then-text-gt-MOST_BYTES
 shape_of-out-then-text-gt-MOST_BYTES c = ap length c.clear.ensures ∙ length-replicate _ _
@@ -35,7 +38,7 @@ returns-then-not-l c =
     record { value = all_of.0; out_after = all_of.1 }
 
 pub overflow_cast-result : goal.overflow_cast-result
-overflow_cast-result c = narrow c
+overflow_cast-result c = narrow c.list-l.ensures.leaves c.if-out-gt-MOST_BYTES.false c.if-not-l.false
 
 pub shape_of-out : goal.shape_of-out
 shape_of-out c = leaves_keeps c.list-l.ensures.leaves
@@ -43,7 +46,7 @@ shape_of-out c = leaves_keeps c.list-l.ensures.leaves
 pub returns-clause-value : goal.returns-clause-value
 returns-clause-value c =
     let l = listed _ _ c.if-text-gt-MOST_BYTES.false c.if-out-gt-MOST_BYTES.false c.list-l.ensures.leaves c.if-not-l.false in
-    to_z-of_z (narrow c) ∙ l.0
+    to_z-of_z (narrow c.list-l.ensures.leaves c.if-out-gt-MOST_BYTES.false c.if-not-l.false) ∙ l.0
 
 pub returns-clause-out_after : goal.returns-clause-out_after
 returns-clause-out_after c =

@@ -3,7 +3,7 @@
 
 usage: tools/respell.py [FOLDER]
 
-It was run once, on what port.py had made of the commit that docs/PORT.md names first. tools/respell.tsv has a row for each name: old, a tab, new. Whole names
+It gives the names of today when it is run, once, on what port.py makes of the commit that docs/PORT.md names first. tools/respell.tsv has a row for each name: old, a tab, new. Whole names
 turn alone, in crates/ and in the further edits of tests/edits: in specs and proofs; in the clauses and comments of the sources; in the texts of edits. Strings
 stay, and so does code: no function, type or variable of src/ is a row. In a comment a name with a dash turns only in back quotes. In an old Proof.antt a name
 behind a dot turns only behind a path of modules, since a field there is mostly a step of the code, which has a function's name.

@@ -1,17 +1,30 @@
-use Rattle.std.proofs.Common.{ap, sym}
+use Rattle.std.proofs.Common.{◌≡◌, ℕ, List, rules, ap, sym}
+use Rattle.model.specs.Commands.{DEL-MOD, DEL-SPEC, DEL-SYS}
+use Rattle.command_outcome.specs.Outcome.{Called}
 use Rattle.session_delete.specs.Removed.{component_command}
 use Rattle.read_command.specs.declared.Component.{Component}
+use Rattle.read_command.specs.declared.Component.TheVariants as component
 use Rattle.session_delete.specs.KeepLaws.{called_as}
 use Rattle.session_delete.proofs.take_out.Goals as goal
 
+module _ (s n : List ℕ) (k : Component) (c a : ℕ) (s' n' : List ℕ) where
+  spec_out : k ≡ component.Spec → Called s n (DEL-SPEC c) a s' n' → Called s n (component_command k c) a s' n'
+  unfolding component_command
+  spec_out e h = called_as _ _ _ _ _ _ _ (ap (λ (x : Component). component_command x c) (sym e)) h
+
+  module_out : k ≡ component.Module → Called s n (DEL-MOD c) a s' n' → Called s n (component_command k c) a s' n'
+  unfolding component_command
+  module_out e h = called_as _ _ _ _ _ _ _ (ap (λ (x : Component). component_command x c) (sym e)) h
+
+  system_out : k ≡ component.System → Called s n (DEL-SYS c) a s' n' → Called s n (component_command k c) a s' n'
+  unfolding component_command
+  system_out e h = called_as _ _ _ _ _ _ _ (ap (λ (x : Component). component_command x c) (sym e)) h
+
 pub returns-in-Spec : goal.returns-in-Spec
-unfolding component_command
-returns-in-Spec c = called_as _ _ _ _ _ _ _ (ap (λ (k : Component). component_command k c.args.c) (sym c.in-Spec.is)) c.del_spec_in.ensures
+returns-in-Spec c = search (rules, spec_out)
 
 pub returns-in-Module : goal.returns-in-Module
-unfolding component_command
-returns-in-Module c = called_as _ _ _ _ _ _ _ (ap (λ (k : Component). component_command k c.args.c) (sym c.in-Module.is)) c.del_mod_in.ensures
+returns-in-Module c = search (rules, module_out)
 
 pub returns-in-System : goal.returns-in-System
-unfolding component_command
-returns-in-System c = called_as _ _ _ _ _ _ _ (ap (λ (k : Component). component_command k c.args.c) (sym c.in-System.is)) c.del_sys_in.ensures
+returns-in-System c = search (rules, system_out)

@@ -1,4 +1,4 @@
-// The test for 25, the ten calls, the queries and the parts list for a host in C or Rust, which lends the two arrays of a Book. The test in
+// The test for 25, the ten calls, the queries and the parts list for a host in C or Rust, which lends a Book as its two arrays. The test in
 // tests/numbers and the benchmark in bench/ link them.
 #![tactic(auto)]
 
@@ -15,28 +15,32 @@ ghost use Rattle.query_replies.specs.Replied.{Replied, replied_to, numbers_in};
 use book::Book;
 
 #[unsafe(no_mangle)]
-pub extern "C" fn version_book_test<'a>(sets: &'a [u64; 576], numbers: &'a [u8; 8768]) -> bool
+pub extern "C" fn version_book_test(sets: &[u64; 576], numbers: &[u8; 8768]) -> bool
     ensures { result ≡ test.passes sets.now numbers.now }
 {
-    book_test::passes(sets, numbers)
+    let b = Book {
+        sets: *sets,
+        numbers: *numbers,
+    };
+    book_test::passes(&b)
 }
 
 // The call of a number, as in demand_3::call; ADD-MOD's implementations are lengths. The Book that it hands back is written into the last two arrays.
 #[unsafe(no_mangle)]
-pub extern "C" fn version_book_call<'a>(
-    sets: &'a [u64; 576],
-    numbers: &'a [u8; 8768],
+pub extern "C" fn version_book_call(
+    sets: &[u64; 576],
+    numbers: &[u8; 8768],
     kind: usize,
     c: usize,
     v: usize,
     i: usize,
     set: u64,
-    usable: &'a [usize],
-    versions: &'a [usize],
-    lengths: &'a [usize],
-    members: &'a [usize],
-    chosen: &'a [usize],
-    required: &'a [u64],
+    usable: &[usize],
+    versions: &[usize],
+    lengths: &[usize],
+    members: &[usize],
+    chosen: &[usize],
+    required: &[u64],
     next_sets: &mut [u64; 576],
     next_numbers: &mut [u8; 8768],
 ) -> u8
@@ -44,11 +48,9 @@ pub extern "C" fn version_book_call<'a>(
         (command_of (call_of kind c v i set usable.now versions.now lengths.now lengths.now
         members.now chosen.now required.now)) result next_sets.new next_numbers.new }
 {
-    let lent_sets = *sets;
-    let lent_numbers = *numbers;
     let b = Book {
-        sets: lent_sets,
-        numbers: lent_numbers,
+        sets: *sets,
+        numbers: *numbers,
     };
     let done = demand_3::call(
         b, kind, c, v, i, set, usable, versions, lengths, lengths, members, chosen, required,
@@ -62,9 +64,9 @@ pub extern "C" fn version_book_call<'a>(
 
 // The parts list of version v of c, written into out. It gives the answer, and writes how many rows there are and a depth.
 #[unsafe(no_mangle)]
-pub extern "C" fn version_book_parts<'a>(
-    sets: &'a [u64; 576],
-    numbers: &'a [u8; 8768],
+pub extern "C" fn version_book_parts(
+    sets: &[u64; 576],
+    numbers: &[u8; 8768],
     c: usize,
     v: usize,
     out: &mut [u16],
@@ -73,11 +75,9 @@ pub extern "C" fn version_book_parts<'a>(
 ) -> u8
     ensures { Listed sets.now numbers.now c v out.old result rows.new depth.new out.new }
 {
-    let lent_sets = *sets;
-    let lent_numbers = *numbers;
     let b = Book {
-        sets: lent_sets,
-        numbers: lent_numbers,
+        sets: *sets,
+        numbers: *numbers,
     };
     let list = parts::parts(b, c, v, out);
     *rows = list.rows;
@@ -140,9 +140,9 @@ fn query(b: Book, kind: usize, c: usize, v: usize) -> Found
 
 // The query of a number. It gives the answer, and writes the set or the version: 0 where it is refused.
 #[unsafe(no_mangle)]
-pub extern "C" fn version_book_query<'a>(
-    sets: &'a [u64; 576],
-    numbers: &'a [u8; 8768],
+pub extern "C" fn version_book_query(
+    sets: &[u64; 576],
+    numbers: &[u8; 8768],
     kind: usize,
     c: usize,
     v: usize,
@@ -151,11 +151,9 @@ pub extern "C" fn version_book_query<'a>(
     ensures { Replied (asked_by kind c v).1 result found.new
         (replied_to sets.now numbers.now (asked_by kind c v).0) }
 {
-    let lent_sets = *sets;
-    let lent_numbers = *numbers;
     let b = Book {
-        sets: lent_sets,
-        numbers: lent_numbers,
+        sets: *sets,
+        numbers: *numbers,
     };
     let reply = query(b, kind, c, v);
     *found = reply.number;
@@ -164,9 +162,9 @@ pub extern "C" fn version_book_query<'a>(
 
 // CHOICE of a set of facilities, its rows written into out. It gives the answer, and writes how many rows there are.
 #[unsafe(no_mangle)]
-pub extern "C" fn version_book_choice<'a>(
-    sets: &'a [u64; 576],
-    numbers: &'a [u8; 8768],
+pub extern "C" fn version_book_choice(
+    sets: &[u64; 576],
+    numbers: &[u8; 8768],
     wanted: u64,
     out: &mut [u16],
     rows: &mut usize,
@@ -174,11 +172,9 @@ pub extern "C" fn version_book_choice<'a>(
     ensures { chosen.Listed out.old result rows.new out.new
         (chosen.fitted (length out.old) (replied_to sets.now numbers.now (CHOICE (numbers_in wanted)))) }
 {
-    let lent_sets = *sets;
-    let lent_numbers = *numbers;
     let b = Book {
-        sets: lent_sets,
-        numbers: lent_numbers,
+        sets: *sets,
+        numbers: *numbers,
     };
     let pairs = queries::choice(b, wanted, out);
     *rows = pairs.rows;

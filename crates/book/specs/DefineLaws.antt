@@ -20,13 +20,12 @@ use Rattle.book.specs.Same.{place-slot, proper_rest, specs_ext, system_ext}
 use Rattle.book.specs.SlotLaws.{distinct_same, only_no, only_yes, slot_same}
 use Rattle.book.specs.Writers.{put_ext, put_none}
 use Rattle.model.specs.Book.{System, components, is_defined, is_module, is_system, versions}
-use Rattle.model.specs.Commands.{DEL-MOD, DEL-SPEC, DEL-SYS, after, stored}
+use Rattle.model.specs.Commands.{DEL-MOD, DEL-SPEC, DEL-SYS, after}
 use Rattle.model.specs.Maps.{Map, is_some, only_if, option_map, put}
 use Rattle.sets.specs.TestLaws.{<?_in, =?-not, =?-same, and-true, clash, fails, if-true, not_in, same?}
 use Rattle.sets.specs.Tests.{◌=?◌}
 use Rattle.model_laws.specs.Accepted.{not_defined}
 use Rattle.model_laws.specs.MapLaws.{is_some_in, option?}
-use Rattle.model_laws.specs.Notions.{distinct}
 
 -- ---- the kind of c is set to k, with what stands at its places; its versions and its specification stay
 

@@ -2,6 +2,7 @@
 -- that is free, the fields of a component that is not specified, a composition of what is no system) is masked.
 use Rattle.std.specs.Prelude.{Bool, List, ◌%◌, ◌*◌, ◌+◌, ◌^◌, ℕ}
 use Rattle.std.proofs.Math.Option.{Option, none}
+use Rattle.book.specs.declared.Book.{Book as Stored}
 use Rattle.book.specs.Layout.{implementation_at, kind_at, member_version_at, members_at, provides_at, requires_at, slots_of}
 use Rattle.book.specs.Layout.{standard_at, usable_at}
 use Rattle.model.specs.Book.{Book, Modules, Spec, Specs, System, Systems, components, facilities, implementations, versions}
@@ -64,6 +65,10 @@ systems_of s n c = only_if (kind_is n 3 c) (system_at s n c)
 
 abbrev pub plain_of : List ℕ → List ℕ → Book
 plain_of s n = record { specs = specs_of s n; modules = modules_of n; systems = systems_of s n }
+
+-- the plain book that a Book holds
+abbrev pub plain : Stored → Book
+plain b = plain_of b.sets b.numbers
 
 -- ---- the part of the question for 25 that is put to the arrays themselves: "are its numbers below their limits", "different versions"
 

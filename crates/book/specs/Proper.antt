@@ -11,13 +11,11 @@ use Rattle.book.specs.SlotLaws.{Distinct, slots_full}
 use Rattle.model.specs.Book.{components, specified, versions}
 use Rattle.model.specs.Limits.{how_many}
 use Rattle.model.specs.Maps.{is_some}
-use Rattle.model.specs.Questions.{free}
 use Rattle.model.specs.Rules.{p}
 use Rattle.sets.specs.TestLaws.{<?_in, <?_out, =?-in, =?-no, =?-not, =?-out, all_in, all_out, and_in, and_l, and_r, if-true, imp_in}
 use Rattle.sets.specs.TestLaws.{imp_out, not_in, not_out, ≤?_in, ≤?_out}
 use Rattle.sets.specs.Tests.{count}
 use Rattle.model_laws.specs.MapLaws.{option_map-some}
-use Rattle.model_laws.specs.Notions.{distinct}
 
 module _ (s n : List ℕ) (c : ℕ) where
   -- the facts behind the test, of a component that is specified
@@ -81,5 +79,5 @@ pub record FreePlace (n : List ℕ) (c i : ℕ) : Type 0 where
 pub free_found : (n : List ℕ) (c j : ℕ) {x : ℕ} → c < components → j < 8 → x ≡ slots_of n c j → versions ≤ x → FreePlace n c (c * 8 + j)
 free_found n c j c< l e h = record { slot = j; slot< = l; is = refl; free = rw (sym e) h; place< = omega arith }
 
-pub free_lost : (s n : List ℕ) (c j i : ℕ) → HasRoom s n c → 8 ≤ j → ((k : ℕ) → k < j → versions ≤ slots_of n c k → ⊥) → FreePlace n c i
-free_lost s n c j i t h nay = absurd (free-slot s n c t.is_proper t.component< t.is_specified t.is_room (λ k l. nay k (omega arith)))
+pub free_lost : (s n : List ℕ) (c j : ℕ) → HasRoom s n c → 8 ≤ j → ((k : ℕ) → k < j → versions ≤ slots_of n c k → ⊥) → ⊥
+free_lost s n c j t h nay = free-slot s n c t.is_proper t.component< t.is_specified t.is_room (λ k l. nay k (omega arith))

@@ -1,7 +1,8 @@
 -- A version put in, or taken out.
+use Rattle.std.specs.Prelude.{IsSome, Option as Found, Some}
 use Rattle.std.specs.Prelude.{false, true, List, ◌≢◌, ◌≡◌, refl, ◌*◌, ◌+◌, ◌<◌, ◌^◌, ◌≤◌, suc, zero, ℕ, get_or, length, set}
 use Rattle.std.proofs.Common.{inl, inr, ◌∙◌, le_antisymm, le_refl, not-suc-le-zero, add-one, arith, pow_pos, get_or-set_other, Fits}
-use Rattle.std.proofs.Math.Option.{Option, none, some}
+use Rattle.std.proofs.Math.Option.{none, some}
 use Rattle.std.proofs.Math.Path.{ap, fun_ext, sym}
 use Rattle.std.proofs.Math.ListN.{length-set}
 use Rattle.std.proofs.Math.Seq.{get_or-set_same}
@@ -11,20 +12,19 @@ use Rattle.book.specs.Plain.{byte, component_set, composition_at, facility_set, 
 use Rattle.book.specs.Plain.{slot, specified_at, specs_of, systems_of}
 use Rattle.book.specs.Proper.{FreePlace, ProperFacts, facts_proper, proper_component, specified_kind}
 use Rattle.book.specs.ReadLaws.{book_ext, has_version_plain, is_module_plain, is_system_plain, place-limit, specified_plain}
-use Rattle.book.specs.Readers.{byte_small, kind_at_lem, place_below}
+use Rattle.book.specs.Readers.{byte_small, kind_at_lem, place_below, place_there, version_is}
 use Rattle.book.specs.Same.{AtPlace, heads, other_components, other_places, other_versions, place-slot, proper_rest}
 use Rattle.book.specs.SlotLaws.{distinct_put, distinct-take, only_no, slot_put, slot-take}
 use Rattle.book.specs.Writers.{change_none, pair_modules, pair_specs, pair_systems}
 use Rattle.model.specs.Book.{components, is_defined, is_module, is_system, versions}
 use Rattle.model.specs.Commands.{DEL-MODVAR, DEL-SYSVAR, after, no_facility, with_composition, with_version}
-use Rattle.model.specs.Maps.{Map, change, is_some, only_if, option_map, or_else, put}
-use Rattle.model.specs.Queries.{undefined}
+use Rattle.model.specs.Maps.{Map, change, is_some, only_if, option_map, put}
+use Rattle.sets.specs.Answered.{answered}
 use Rattle.sets.specs.SetLaws.{bit_below, bit_limit, bit_zero}
 use Rattle.sets.specs.Sets.{Set, bit}
 use Rattle.sets.specs.TestLaws.{=?-not, =?-out, and_no, and_r, bool?, clash, fails, if-true, not_in, same?}
 use Rattle.model_laws.specs.Accepted.{not_defined}
-use Rattle.model_laws.specs.MapLaws.{is_some_no, is_some_out, option_map-some}
-use Rattle.model_laws.specs.Notions.{distinct, here}
+use Rattle.model_laws.specs.MapLaws.{is_some_no, option_map-some}
 use Rattle.std.specs.Int.{w64, w8}
 use Rattle.sets.specs.Sets as sets
 
@@ -368,18 +368,14 @@ module _ (s n : List ℕ) (c v i : ℕ) (ln : length n ≡ 8768) (t : HoldsVersi
     is_proper = take-proper;
   }
 
--- the place that a version which is there has
-pub held_place : (s n : List ℕ) (c v i : ℕ) → HoldsVersion s n c v → i ≡ or_else (place_of n c v) 256 → (i < 256) × (place_of n c v ≡ some i)
-unfolding or_else
-held_place s n c v i t e =
-    let o = is_some_out _ (sym (has_version_plain s n c v) ∙ t.is_there) in
-    let q : i ≡ o.0 = e ∙ ap (λ (x : Option ℕ). or_else x 256) o.1 in
-    (rw q (place_below n c v o.0 o.1), o.1 ∙ ap some (sym q))
+-- a version that is there has a place
+pub held_place : (s n : List ℕ) (c v : ℕ) (r : Found ℕ) → HoldsVersion s n c v → answered r ≡ place_of n c v → IsSome r
+held_place s n c v r t e = version_is s n c v r e ∙ t.is_there
 
-pub modvar_out : (s n : List ℕ) (c v i : ℕ) → length n ≡ 8768 → HoldsVersion s n c v → is_module (modules_of n) c ≡ true → i ≡ or_else (place_of n c v) 256
-    → Holds s (set n (64 + i) 64) (after (plain_of s n) (DEL-MODVAR c v))
-modvar_out s n c v i ln t m e = modvar_taken s n c v i ln t (held_place s n c v i t e).1 m
+pub modvar_out : (s n : List ℕ) (c v i : ℕ) (r : Found ℕ) → length n ≡ 8768 → HoldsVersion s n c v → is_module (modules_of n) c ≡ true
+    → answered r ≡ place_of n c v → r ≡ Some i → Holds s (set n (64 + i) 64) (after (plain_of s n) (DEL-MODVAR c v))
+modvar_out s n c v i r ln t m e q = modvar_taken s n c v i ln t (place_there n c v r e i q) m
 
-pub sysvar_out : (s n : List ℕ) (c v i : ℕ) → length n ≡ 8768 → HoldsVersion s n c v → is_system (systems_of s n) c ≡ true → i ≡ or_else (place_of n c v) 256
-    → Holds s (set n (64 + i) 64) (after (plain_of s n) (DEL-SYSVAR c v))
-sysvar_out s n c v i ln t y e = sysvar_taken s n c v i ln t (held_place s n c v i t e).1 y
+pub sysvar_out : (s n : List ℕ) (c v i : ℕ) (r : Found ℕ) → length n ≡ 8768 → HoldsVersion s n c v → is_system (systems_of s n) c ≡ true
+    → answered r ≡ place_of n c v → r ≡ Some i → Holds s (set n (64 + i) 64) (after (plain_of s n) (DEL-SYSVAR c v))
+sysvar_out s n c v i r ln t y e q = sysvar_taken s n c v i ln t (place_there n c v r e i q) y

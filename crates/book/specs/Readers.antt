@@ -1,10 +1,10 @@
 -- One law for each way out of a reader.
-use Rattle.std.specs.Prelude.{Bool, not, true, List, ◌≡◌, ◌*◌, ◌+◌, ◌<◌, ◌≤◌, ℕ, eqb, ltb}
+use Rattle.std.specs.Prelude.{Bool, None, Option as Found, Some, is_some as is_found, not, true, List, ◌≡◌, ◌*◌, ◌+◌, ◌<◌, ◌≤◌, ℕ, eqb}
 use Rattle.std.proofs.Math.Bool.{false}
 use Rattle.std.proofs.Math.Logic.{inl, inr}
 use Rattle.std.proofs.Math.Option.{Option, none, some}
 use Rattle.std.proofs.Common.{◌∙◌, le_antisymm, mod-eq_of_lt, arith}
-use Rattle.std.proofs.Math.Path.{ap, fun_ext, sym}
+use Rattle.std.proofs.Math.Path.{ap, fun_ext, refl, sym}
 use Rattle.book.specs.Layout.{implementation_at, kind_at, member_version_at, members_at, provides_at, requires_at, slots_of}
 use Rattle.book.specs.Layout.{standard_at, usable_at}
 use Rattle.book.specs.Plain.{byte, component_set, composition_at, facility_set, kind_is, modules_of, place_of, plain_of, slot}
@@ -16,13 +16,14 @@ use Rattle.book.specs.SlotLaws.{among-all, among_first, only_no, slot_absent, sl
 use Rattle.model.specs.Book.{components, empty, has_version, implementation, is_member, is_module, is_system, member, provides}
 use Rattle.model.specs.Book.{requires, specified, standard, usable, versions}
 use Rattle.model.specs.Maps.{and_then, has, is_some, only_if, option_map, or_else}
+use Rattle.sets.specs.Answered.{answered}
 use Rattle.sets.specs.SetLaws.{bit_zero}
 use Rattle.sets.specs.Sets.{Set, bit}
-use Rattle.sets.specs.TestLaws.{<?_in, <?_no, <?_out, =?-in, =?-no, =?-not, and-false, and_in, and_no, and-true, bool?, fails}
+use Rattle.sets.specs.TestLaws.{<?_in, <?_out, =?-in, =?-no, =?-not, and-false, and_in, and_no, and-true, bool?, fails}
 use Rattle.sets.specs.TestLaws.{if-false, if-true, not_in, not_out}
-use Rattle.sets.specs.Tests.{◌<?◌, ◌=?◌, ~◌}
+use Rattle.sets.specs.Tests.{◌=?◌, ~◌}
 use Rattle.model_laws.specs.ListLaws.{only_some}
-use Rattle.model_laws.specs.MapLaws.{is_some_in, is_some_out, no_some, option?, option_map_out, option_map-some}
+use Rattle.model_laws.specs.MapLaws.{is_some_out, no_some, option_map_out, option_map-some}
 use Rattle.sets.specs.Sets as sets
 
 no_version : (n : List ℕ) (c v : ℕ) → slot (slots_of n c) v ≡ none → place_of n c v ≡ none
@@ -52,25 +53,24 @@ not_kind n k c ne = and_no _ _ (λ t. =?-not _ _ ne)
 -- ---- the search for a place
 
 module _ (n : List ℕ) (c v : ℕ) where
-  pub place_unspecified : kind_at n c ≡ 0 → 256 ≡ or_else (place_of n c v) 256
-  unfolding place_of or_else
-  place_unspecified e = sym (ap (λ (o : Option ℕ). or_else o 256) (if-false _ _ _ (not-specified n c e)))
+  pub place_unspecified : kind_at n c ≡ 0 → answered None ≡ place_of n c v
+  unfolding answered place_of
+  place_unspecified e = sym (if-false _ _ _ (not-specified n c e))
 
-  pub place_high : versions ≤ v → 256 ≡ or_else (place_of n c v) 256
-  unfolding or_else
-  place_high h = sym (ap (λ (o : Option ℕ). or_else o 256) (no_version n c v (slot_high _ v h)))
+  pub place_high : versions ≤ v → answered None ≡ place_of n c v
+  unfolding answered
+  place_high h = sym (no_version n c v (slot_high _ v h))
 
   module _ (c< : c < components) (there : kind_at n c ≡ 0 → ⊥) (v< : v < versions) where
     pub place_found : (j : ℕ) {x : ℕ} → j < 8 → x ≡ slots_of n c j → x ≡ v → ((k : ℕ) → k < j → slots_of n c k ≡ v → ⊥)
-        → c * 8 + j ≡ or_else (place_of n c v) 256
-    unfolding place_of or_else option_map
+        → answered (Some (c * 8 + j)) ≡ place_of n c v
+    unfolding answered place_of option_map
     place_found j j< ex e nay =
-        sym (ap (λ (o : Option ℕ). or_else o 256)
-        (if-true _ _ _ (specified_at_lem n c c< there) ∙ ap (option_map (λ j. c * 8 + j)) (slot_found _ v j v< j< (sym ex ∙ e) nay)))
+        sym (if-true _ _ _ (specified_at_lem n c c< there) ∙ ap (option_map (λ j. c * 8 + j)) (slot_found _ v j v< j< (sym ex ∙ e) nay))
 
-    pub place_lost : (j : ℕ) → j ≤ 8 → 8 ≤ j → ((k : ℕ) → k < j → slots_of n c k ≡ v → ⊥) → 256 ≡ or_else (place_of n c v) 256
-    unfolding or_else
-    place_lost j h₁ h₂ nay = sym (ap (λ (o : Option ℕ). or_else o 256) (no_version n c v (slot_absent _ v (λ k l. nay k (omega arith)))))
+    pub place_lost : (j : ℕ) → j ≤ 8 → 8 ≤ j → ((k : ℕ) → k < j → slots_of n c k ≡ v → ⊥) → answered None ≡ place_of n c v
+    unfolding answered
+    place_lost j h₁ h₂ nay = sym (no_version n c v (slot_absent _ v (λ k l. nay k (omega arith))))
 
 -- what a place that was searched for tells
 pub place_below : (n : List ℕ) (c v i : ℕ) → place_of n c v ≡ some i → i < 256
@@ -80,20 +80,19 @@ place_below n c v i e =
     let z = option_map_out _ _ i (sym (if-true _ _ _ t) ∙ e) in
     omega (arith, (slot-some _ v z.0 z.1).0, specified_at-limit n c t, z.2)
 
-module _ (n : List ℕ) (c v i : ℕ) (e : i ≡ or_else (place_of n c v) 256) where
-  pub place_there : i < 256 → place_of n c v ≡ some i
-  unfolding or_else
-  place_there l = elim (option? (place_of n c v)) [
-    | inl z ↦ absurd (omega (arith, e ∙ ap (λ (o : Option ℕ). or_else o 256) z))
-    | inr y ↦ y.1 ∙ ap some (sym (e ∙ ap (λ (o : Option ℕ). or_else o 256) y.1))
-  ]
+module _ (n : List ℕ) (c v : ℕ) (r : Found ℕ) (e : answered r ≡ place_of n c v) where
+  pub place_there : (i : ℕ) → r ≡ Some i → place_of n c v ≡ some i
+  unfolding answered
+  place_there i q = sym e ∙ ap answered q
 
-  pub place_none : 256 ≤ i → place_of n c v ≡ none
-  unfolding or_else
-  place_none l = elim (option? (place_of n c v)) [
-    | inl z ↦ z
-    | inr y ↦ absurd (omega (arith, place_below n c v y.0 y.1, e ∙ ap (λ (o : Option ℕ). or_else o 256) y.1))
-  ]
+  pub place_none : r ≡ None → place_of n c v ≡ none
+  unfolding answered
+  place_none q = sym e ∙ ap answered q
+
+some_answered : (r : Found ℕ) → is_found r ≡ is_some (answered r)
+unfolding answered is_some
+some_answered (Some i) = refl
+some_answered None = refl
 
 -- ---- components
 
@@ -159,45 +158,48 @@ module _ (s n : List ℕ) (c : ℕ) (c< : c < components) where
 
 -- ---- versions
 
-module _ (s n : List ℕ) (c v i : ℕ) (e : i ≡ or_else (place_of n c v) 256) where
-  pub version_is : ltb i 256 ≡ has_version (specs_of s n) c v
-  unfolding ◌<?◌ is_some
-  version_is = sym (has_version_plain s n c v ∙ elim (bool? (i <? 256)) [
-    | inl t ↦ is_some_in _ (place_there n c v i e (<?_out _ _ t)) ∙ sym t
-    | inr t ↦ ap is_some (place_none n c v i e (<?_no _ _ t)) ∙ sym t
-  ])
+module _ (s n : List ℕ) (c v : ℕ) (r : Found ℕ) (e : answered r ≡ place_of n c v) where
+  pub version_is : is_found r ≡ has_version (specs_of s n) c v
+  version_is = some_answered r ∙ ap is_some e ∙ sym (has_version_plain s n c v)
 
-  pub required-none : 256 ≤ i → bit 0 ≡ requires (specs_of s n) c v
+  pub required-none : r ≡ None → bit 0 ≡ requires (specs_of s n) c v
   unfolding has
-  required-none l = fun_ext (λ f. bit_zero f ∙ sym (requires_plain s n c v f ∙ ap (λ (o : Option ℕ). has o (λ i. facility_set (requires_at s i) f)) (place_none n c v i e l)))
+  required-none q = fun_ext (λ f. bit_zero f
+      ∙ sym (requires_plain s n c v f ∙ ap (λ (o : Option ℕ). has o (λ i. facility_set (requires_at s i) f)) (place_none n c v r e q)))
 
-  pub required-some : (x : ℕ) → i < 256 → bit x ≡ sets.below 64 (bit (requires_at s i)) → bit x ≡ requires (specs_of s n) c v
+  pub required-some : (x i : ℕ) → r ≡ Some i → bit x ≡ sets.below 64 (bit (requires_at s i)) → bit x ≡ requires (specs_of s n) c v
   unfolding has facility_set
-  required-some x l ex = fun_ext (λ f. ap (λ (a : Set). a f) ex
-      ∙ sym (requires_plain s n c v f ∙ ap (λ (o : Option ℕ). has o (λ i. sets.below 64 (bit (requires_at s i)) f)) (place_there n c v i e l)))
+  required-some x i q ex = fun_ext (λ f. ap (λ (a : Set). a f) ex
+      ∙ sym (requires_plain s n c v f ∙ ap (λ (o : Option ℕ). has o (λ i. sets.below 64 (bit (requires_at s i)) f)) (place_there n c v r e i q)))
 
-  pub implementation-none : 256 ≤ i → 0 ≡ or_else (implementation (modules_of n) c v) 0
+  pub implementation-none : r ≡ None → 0 ≡ or_else (implementation (modules_of n) c v) 0
   unfolding or_else option_map
-  implementation-none l = sym (ap (λ (o : Option ℕ). or_else o 0) (implementation_plain s n c v ∙ if_none _ _ (map-none _ _ (place_none n c v i e l))))
+  implementation-none q =
+      sym (ap (λ (o : Option ℕ). or_else o 0) (implementation_plain s n c v ∙ if_none _ _ (map-none _ _ (place_none n c v r e q))))
 
-  pub implementation-some : (x : ℕ) → c < components → kind_at n c ≡ 2 → i < 256 → x ≡ byte (implementation_at n i)
+  pub implementation-some : (x i : ℕ) → c < components → kind_at n c ≡ 2 → r ≡ Some i → x ≡ byte (implementation_at n i)
       → x ≡ or_else (implementation (modules_of n) c v) 0
   unfolding or_else option_map
-  implementation-some x c< k l ex =
+  implementation-some x i c< k q ex =
       ex ∙ sym (ap (λ (o : Option ℕ). or_else o 0)
-      (implementation_plain s n c v ∙ if-true _ _ _ (kind_at_lem n c c< 2 k) ∙ ap (option_map (λ i. byte (implementation_at n i))) (place_there n c v i e l)))
+      (implementation_plain s n c v ∙ if-true _ _ _ (kind_at_lem n c c< 2 k)
+      ∙ ap (option_map (λ i. byte (implementation_at n i))) (place_there n c v r e i q)))
 
-  pub members-none : 256 ≤ i → bit 0 ≡ is_member (systems_of s n) c v
+  pub members-none : r ≡ None → bit 0 ≡ is_member (systems_of s n) c v
   unfolding is_member is_some and_then
-  members-none l = fun_ext (λ m. bit_zero m ∙ sym (ap is_some (member_plain s n c v m ∙ if_none _ _ (ap (λ (o : Option ℕ). and_then o (λ i. composition_at s n i m)) (place_none n c v i e l)))))
+  members-none q = fun_ext (λ m. bit_zero m
+      ∙ sym (ap is_some (member_plain s n c v m
+      ∙ if_none _ _ (ap (λ (o : Option ℕ). and_then o (λ i. composition_at s n i m)) (place_none n c v r e q)))))
 
-  member_at : (m : ℕ) → c < components → kind_at n c ≡ 3 → i < 256 → member (systems_of s n) c v m ≡ composition_at s n i m
+  member_at : (m i : ℕ) → c < components → kind_at n c ≡ 3 → r ≡ Some i → member (systems_of s n) c v m ≡ composition_at s n i m
   unfolding and_then
-  member_at m c< k l = member_plain s n c v m ∙ if-true _ _ _ (kind_at_lem n c c< 3 k) ∙ ap (λ (o : Option ℕ). and_then o (λ i. composition_at s n i m)) (place_there n c v i e l)
+  member_at m i c< k q = member_plain s n c v m ∙ if-true _ _ _ (kind_at_lem n c c< 3 k)
+      ∙ ap (λ (o : Option ℕ). and_then o (λ i. composition_at s n i m)) (place_there n c v r e i q)
 
-  pub members-some : (x : ℕ) → c < components → kind_at n c ≡ 3 → i < 256 → bit x ≡ sets.below 32 (bit (members_at s i)) → bit x ≡ is_member (systems_of s n) c v
+  pub members-some : (x i : ℕ) → c < components → kind_at n c ≡ 3 → r ≡ Some i → bit x ≡ sets.below 32 (bit (members_at s i))
+      → bit x ≡ is_member (systems_of s n) c v
   unfolding is_member composition_at component_set
-  members-some x c< k l ex = fun_ext (λ m. ap (λ (a : Set). a m) ex ∙ sym (ap is_some (member_at m c< k l) ∙ is_some_only _ _))
+  members-some x i c< k q ex = fun_ext (λ m. ap (λ (a : Set). a m) ex ∙ sym (ap is_some (member_at m i c< k q) ∙ is_some_only _ _))
 
   module _ (m : ℕ) (t : is_member (systems_of s n) c v m ≡ true) where
     found : (w : ℕ) × (kind_is n 3 c ≡ true) × (and_then (place_of n c v) (λ i. composition_at s n i m) ≡ some w)
@@ -207,14 +209,14 @@ module _ (s n : List ℕ) (c v i : ℕ) (e : i ≡ or_else (place_of n c v) 256)
         let z = if_some _ _ o.0 (sym (member_plain s n c v m) ∙ o.1) in
         (o.0, z.0, z.1)
 
-    pub member_lost : 256 ≤ i → member (systems_of s n) c v m ≡ some 0
+    pub member_lost : r ≡ None → member (systems_of s n) c v m ≡ some 0
     unfolding and_then
-    member_lost l = no_some (sym (ap (λ (o : Option ℕ). and_then o (λ i. composition_at s n i m)) (place_none n c v i e l)) ∙ found.2)
+    member_lost q = no_some (sym (ap (λ (o : Option ℕ). and_then o (λ i. composition_at s n i m)) (place_none n c v r e q)) ∙ found.2)
 
-    pub member_found : (x : ℕ) → i < 256 → x ≡ member_version_at n i m → member (systems_of s n) c v m ≡ some x
+    pub member_found : (x i : ℕ) → r ≡ Some i → x ≡ member_version_at n i m → member (systems_of s n) c v m ≡ some x
     unfolding composition_at and_then
-    member_found x l ex =
-        let at = sym (ap (λ (o : Option ℕ). and_then o (λ i. composition_at s n i m)) (place_there n c v i e l)) ∙ found.2 in
+    member_found x i q ex =
+        let at = sym (ap (λ (o : Option ℕ). and_then o (λ i. composition_at s n i m)) (place_there n c v r e i q)) ∙ found.2 in
         let z = only_some (component_set (members_at s i) m) (member_version_at n i m) found.0 at in
         member_plain s n c v m ∙ if-true _ _ _ found.1 ∙ found.2 ∙ ap some (sym z.1 ∙ sym ex)
 

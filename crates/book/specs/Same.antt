@@ -11,7 +11,7 @@ use Rattle.book.specs.Plain.{proper, proper_at, proper_if, sets_low, slot_apart,
 use Rattle.book.specs.Plain.{specs_of, system_at, systems_of}
 use Rattle.book.specs.ReadLaws.{component_limit, place-limit}
 use Rattle.book.specs.SlotLaws.{only_no, only_yes, slot_same, slot-some}
-use Rattle.model.specs.Book.{Spec, System, components, implementation, provides, requires, standard, usable, versions}
+use Rattle.model.specs.Book.{Spec, System, components, versions}
 use Rattle.model.specs.Maps.{Map, only_if, option_map}
 use Rattle.model.specs.Rules.{p}
 use Rattle.sets.specs.Sets.{Set}

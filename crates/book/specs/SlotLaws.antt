@@ -9,18 +9,14 @@ use Rattle.book.specs.Plain.{slot}
 use Rattle.model.specs.Book.{versions}
 use Rattle.model.specs.Lists.{first_from}
 use Rattle.model.specs.Maps.{else_try, is_some, only_if, put}
-use Rattle.model.specs.Questions.{free}
-use Rattle.model.specs.Rules.{p}
 use Rattle.sets.specs.SetLaws.{bit_zero}
 use Rattle.sets.specs.Sets.{Set, bit, with}
 use Rattle.sets.specs.TestLaws.{<?_in, <?_no, <?_out, =?-in, =?-no, =?-not, =?-out, =?-same, and-false, and_in, and_l, and_r}
 use Rattle.sets.specs.TestLaws.{and_swap, and-true, any_in, any_out, bool?, clash, count_mono, count_strict, fails, if-false}
 use Rattle.sets.specs.TestLaws.{if-true, iff→≡, or-false, same?}
 use Rattle.sets.specs.Tests.{◌&◌, ◌<?◌, ◌=?◌, ◌or◌, any, count, if?◌then◌else◌}
-use Rattle.model_laws.specs.KeepModules.{gone}
 use Rattle.model_laws.specs.ListLaws.{first_from_least, first_from-none, first_from-some, only_none, only_some}
 use Rattle.model_laws.specs.MapLaws.{is_some_in, is_some_out, no_some, option?}
-use Rattle.model_laws.specs.Notions.{here}
 
 first_from_same : {A : Type 0} (k i : ℕ) (f g : ℕ → Option A) → ((m : ℕ) → i ≤ m → m < i + k → f m ≡ g m) → first_from k i f ≡ first_from k i g
 unfolding first_from

@@ -7,7 +7,6 @@ use borrow.Author.Tests.{not-false, not-true}
 use Rattle.book.specs.Layout.{kind_at, members_at, slots_of, usable_at}
 use Rattle.book.specs.Plain.{members_low, proper_at, proper_if, sets_low, slot_apart, slot_low, slots_apart}
 use Rattle.model.specs.Book.{versions}
-use Rattle.model.specs.Rules.{r}
 use Rattle.sets.specs.TestLaws.{<?_in, <?_out, =?-in, =?-no, =?-not, =?-out, and-false, and-true, fails, imp_in, not_in, not_out}
 use Rattle.sets.specs.TestLaws.{≤?_in, ≤?_out}
 use Rattle.sets.specs.Tests.{◌<?◌, ◌=?◌, ◌⇒◌, ◌≤?◌, all}

@@ -16,7 +16,6 @@ use Rattle.book.specs.Same.{system_ext}
 use Rattle.model.specs.Book.{components, versions}
 use Rattle.model.specs.Commands.{with_composition, with_version}
 use Rattle.model.specs.Maps.{Map, change, only_if, option_map, put}
-use Rattle.model.specs.Rules.{p}
 use Rattle.sets.specs.TestLaws.{if-true, same?}
 use Rattle.sets.specs.Tests.{if?◌then◌else◌}
 use Rattle.model_laws.specs.MapLaws.{put_other, put_same}

@@ -4,17 +4,19 @@
 ghost use Rattle.std.specs.Prelude.{◌≡◌, ℕ, ◌<◌, ◌+◌, get_or, List};
 ghost use Rattle.sets.specs.Sets.{bit};
 ghost use Rattle.model.specs.Rules.{B4};
-ghost use Rattle.book.specs.Plain.{systems_of};
+ghost use Rattle.book.specs.Plain.{plain};
 ghost use Rattle.book_rules.specs.RuleLaws.{if_system};
 ghost use Rattle.book_cycles.specs.Closure.{Rows, join_of, self_free};
 
+use book::Book;
+
 // What each component may use.
-fn usable_rows<'a>(sets: &'a [u64; 576], numbers: &'a [u8; 8768]) -> [u64; 32]
-    ensures { Rows (systems_of sets.now numbers.now) 0 result }
+fn usable_rows(book: &Book) -> [u64; 32]
+    ensures { Rows (plain book.now).systems 0 result }
 {
     let mut out: [u64; 32] = [0; 32];
     for c in 0..32 {
-        out[c] = book::usable(sets, numbers, c);
+        out[c] = book.usable(c);
     }
     out
 }
@@ -31,10 +33,10 @@ fn join(a: u64, k: usize, row: u64) -> u64
 }
 
 // Each row with what it reaches by way of k.
-fn pass<'a>(sets: &'a [u64; 576], numbers: &'a [u8; 8768], reach: [u64; 32], k: usize) -> [u64; 32]
+fn pass(book: &Book, reach: [u64; 32], k: usize) -> [u64; 32]
     requires k_bound { k < 32 }
-    requires rows { Rows (systems_of sets.now numbers.now) k reach }
-    ensures { Rows (systems_of sets.now numbers.now) (k + 1) result }
+    requires rows { Rows (plain book.now).systems k reach }
+    ensures { Rows (plain book.now).systems (k + 1) result }
 {
     let mut out: [u64; 32] = [0; 32];
     for c in 0..32 {
@@ -44,34 +46,35 @@ fn pass<'a>(sets: &'a [u64; 576], numbers: &'a [u8; 8768], reach: [u64; 32], k: 
 }
 
 // What each component reaches through usable components.
-pub fn closure<'a>(sets: &'a [u64; 576], numbers: &'a [u8; 8768]) -> [u64; 32]
-    ensures { Rows (systems_of sets.now numbers.now) 32 result }
+pub fn closure(book: &Book) -> [u64; 32]
+    ensures { Rows (plain book.now).systems 32 result }
 {
-    let mut reach = usable_rows(sets, numbers);
+    let mut reach = usable_rows(book);
     for k in 0..32 {
-        let next = pass(sets, numbers, reach, k);
+        let next = pass(book, reach, k);
         reach = next;
     }
     reach
 }
 
-fn self_if<'a>(sets: &'a [u64; 576], numbers: &'a [u8; 8768], s: usize, row: u64) -> bool
+fn self_if(book: &Book, s: usize, row: u64) -> bool
     requires { s < 32 }
-    ensures { (t : List ℕ) → Rows (systems_of sets.now numbers.now) 32 t → row ≡ get_or t s 0 → result ≡ if_system (systems_of sets.now numbers.now) (self_free (systems_of sets.now numbers.now)) s }
+    ensures { (t : List ℕ) → Rows (plain book.now).systems 32 t → row ≡ get_or t s 0
+        → result ≡ if_system (plain book.now).systems (self_free (plain book.now).systems) s }
 {
-    if book::is_system(sets, numbers, s) {
+    if book.is_system(s) {
         return !sets::member(row, s);
     }
     true
 }
 
 // B4
-pub fn b4<'a>(sets: &'a [u64; 576], numbers: &'a [u8; 8768]) -> bool
-    ensures { result ≡ B4 (systems_of sets.now numbers.now) }
+pub fn b4(book: &Book) -> bool
+    ensures { result ≡ B4 (plain book.now).systems }
 {
-    let reach = closure(sets, numbers);
+    let reach = closure(book);
     for s in 0..32 {
-        if !self_if(sets, numbers, s, reach[s]) {
+        if !self_if(book, s, reach[s]) {
             return false;
         }
     }

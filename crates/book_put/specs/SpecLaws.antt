@@ -20,15 +20,12 @@ use Rattle.model.specs.Book.{Book, Spec, components, has_version, is_defined, is
 use Rattle.model.specs.Commands.{with_version}
 use Rattle.model.specs.Limits.{how_many}
 use Rattle.model.specs.Maps.{Map, change, only_if, option_map, put}
-use Rattle.model.specs.Questions.{free}
-use Rattle.model.specs.Rules.{p, r}
 use Rattle.sets.specs.Sets.{Set, bit}
 use Rattle.sets.specs.TestLaws.{<?_in, <?_no, <?_out, and-false, and_in, and_no, and_r, bool?, clash, count_strict, fails, iff→≡}
 use Rattle.sets.specs.TestLaws.{or-false, same?}
 use Rattle.sets.specs.Tests.{◌&◌, ◌<?◌, ◌or◌, count, if?◌then◌else◌}
 use Rattle.model_laws.specs.Alike.{has_version_at}
 use Rattle.model_laws.specs.MapLaws.{is_some_in, put_other, put_same}
-use Rattle.model_laws.specs.Notions.{distinct, here}
 use Rattle.std.specs.Int.{w64}
 use Rattle.sets.specs.Sets as sets
 

@@ -16,7 +16,7 @@ use Rattle.sets.specs.SetLaws.{bit_ext, bit_zero, meet-disjoint}
 use Rattle.sets.specs.Sets.{Set, bit, disjoint, meet, minus, subset, union, union_below}
 use Rattle.sets.specs.TestLaws.{=?-no, =?-not, all_in, all_no, all_out, and-false, and_in, and_l, and_r, and-true, any_in, any_out}
 use Rattle.sets.specs.TestLaws.{bool?, clash, fails, iff→≡, imp_in, imp_no, imp_out, not_in, not_no, not_out, same?}
-use Rattle.sets.specs.Tests.{◌&◌, ◌=?◌, ◌⇒◌, all, any, if?◌then◌else◌, ~◌}
+use Rattle.sets.specs.Tests.{◌&◌, ◌⇒◌, all, any, ~◌}
 use Rattle.model_laws.specs.Heights.{Sound, needs_system}
 use Rattle.model_laws.specs.MapLaws.{is_some_no, is_some_out}
 
@@ -169,11 +169,6 @@ unfolding B9_at
 b9_is S Y s v x y z w ok t ex ey ez ew eq = eq ∙ ap₂ (disjoint 64) (ez ∙ ap₂ minus (ex ∙ r_needs S Y s v ok t) ey) ew
 
 -- ---- a rule of every composition
-
--- the rules by their numbers
-unfoldable pub rule_at : ℕ → Specs → Systems → ℕ → ℕ → Bool
-rule_at k S Y s v =
-    if? k =? 5 then B5_at S Y s v else if? k =? 6 then B6_at S Y s v else if? k =? 7 then B7_at S Y s v else if? k =? 8 then B8_at S Y s v else B9_at S Y s v
 
 unfoldable pub if_composed : Systems → (ℕ → ℕ → Bool) → ℕ → ℕ → Bool
 if_composed Y test s v = composed Y s v ⇒ test s v

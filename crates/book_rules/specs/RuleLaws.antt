@@ -14,7 +14,7 @@ use Rattle.model.specs.Book.{Specs, Systems, components, composed, facilities, h
 use Rattle.model.specs.Book.{is_module, is_system, provides, requires, specified, standard, usable, versions}
 use Rattle.model.specs.Limits.{how_many}
 use Rattle.model.specs.Maps.{is_some}
-use Rattle.model.specs.Rules.{B1_at, B2_at, B3_at, offered, p, r}
+use Rattle.model.specs.Rules.{B1_at, B2_at, B3_at, offered, p}
 use Rattle.sets.specs.LoopLaws.{union_turn}
 use Rattle.sets.specs.SetLaws.{bit_ext, bit_zero, subset_width}
 use Rattle.sets.specs.Sets.{Set, bit, disjoint, subset, union, union_below}

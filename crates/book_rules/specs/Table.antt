@@ -2,7 +2,6 @@
 use Rattle.std.specs.Prelude.{true, List, ◌≡◌, ◌*◌, ◌+◌, ◌<◌, ℕ, get_or, length}
 use Rattle.model.specs.Book.{Specs, Systems, member}
 use Rattle.model.specs.Maps.{has}
-use Rattle.model.specs.Queries.{found}
 use Rattle.model.specs.Rules.{needs}
 use Rattle.sets.specs.Sets.{Set, bit}
 

@@ -10,15 +10,15 @@ use Rattle.book.specs.Readers.{fresh_plain}
 use Rattle.model.specs.Book.{Book, Modules, Specs, Systems, composed, empty, has_version, is_system, specified}
 use Rattle.model.specs.Limits.{Passes, one_to_eight}
 use Rattle.model.specs.Maps.{is_some}
-use Rattle.model.specs.Rules.{B1, B1_to_B9, B1_at, B2, B2_at, B3, B3_at, B4, B5, B5_to_B9, B5_at, B6, B6_at, B7, B7_at, B8, B8_at, B9}
-use Rattle.model.specs.Rules.{B9_at, each_composition, each_specified, each_system, p, r}
-use Rattle.book_rules.specs.CompositionLaws.{if_composed, of_system, rule_at}
+use Rattle.model.specs.Rules.{B1, B1_to_B9, B1_at, B2, B2_at, B3, B3_at, B4, B5, B5_to_B9, B6, B7, B8, B9}
+use Rattle.model.specs.Rules.{each_specified, each_system, p, r}
+use Rattle.book_rules.specs.CompositionLaws.{if_composed, of_system}
 use Rattle.book_rules.specs.RuleLaws.{composed_version, count_ok, if_specified, if_system, unspecified}
 use Rattle.book_rules.specs.Test.{passes}
 use Rattle.sets.specs.Sets.{Set, bit}
-use Rattle.sets.specs.TestLaws.{<?_in, =?-in, =?-not, =?-out, all_in, all_out, and-false, and_in, and_l, and_r, and-true, bool?}
-use Rattle.sets.specs.TestLaws.{clash, if-false, if-true, imp_in, not_in, not_out}
-use Rattle.sets.specs.Tests.{◌&◌, ◌=?◌, ◌⇒◌, all, if?◌then◌else◌, ~◌}
+use Rattle.sets.specs.TestLaws.{<?_in, =?-in, =?-out, all_in, all_out, and-false, and_in, and_l, and_r, and-true, bool?}
+use Rattle.sets.specs.TestLaws.{clash, imp_in, not_in, not_out}
+use Rattle.sets.specs.Tests.{◌&◌, ◌=?◌, ◌⇒◌, all, ~◌}
 use Rattle.model_laws.specs.Frame.{composed_system}
 use Rattle.model_laws.specs.Heights.{Sound}
 use Rattle.model_laws.specs.Parts.{rules→sound}
@@ -97,50 +97,6 @@ B2_is S M Y = refl
 pub B3_is : (S : Specs) (Y : Systems) → all 32 (if_system Y (B3_at S Y)) ≡ B3 S Y
 unfolding B3 each_system if_system
 B3_is S Y = refl
-
--- the rule k of every composition, by its name
-module _ (S : Specs) (Y : Systems) where
-  pub B5_is : each_composition Y (rule_at 5 S Y) ≡ B5 S Y
-  unfolding B5 each_composition rule_at if?◌then◌else◌ ◌=?◌
-  B5_is = refl
-
-  pub B6_is : each_composition Y (rule_at 6 S Y) ≡ B6 S Y
-  unfolding B6 each_composition rule_at if?◌then◌else◌ ◌=?◌
-  B6_is = refl
-
-  pub B7_is : each_composition Y (rule_at 7 S Y) ≡ B7 S Y
-  unfolding B7 each_composition rule_at if?◌then◌else◌ ◌=?◌
-  B7_is = refl
-
-  pub B8_is : each_composition Y (rule_at 8 S Y) ≡ B8 S Y
-  unfolding B8 each_composition rule_at if?◌then◌else◌ ◌=?◌
-  B8_is = refl
-
-  pub B9_is : each_composition Y (rule_at 9 S Y) ≡ B9 S Y
-  unfolding B9 each_composition rule_at if?◌then◌else◌ ◌=?◌
-  B9_is = refl
-
-  module _ (k s v : ℕ) {r : Bool} where
-    pub rule_5 : k ≡ 5 → r ≡ B5_at S Y s v → r ≡ rule_at k S Y s v
-    unfolding rule_at
-    rule_5 e q = q ∙ sym (if-true _ _ _ (=?-in k 5 e))
-
-    pub rule_6 : (k ≡ 5 → ⊥) → k ≡ 6 → r ≡ B6_at S Y s v → r ≡ rule_at k S Y s v
-    unfolding rule_at
-    rule_6 a e q = q ∙ sym (if-false _ _ _ (=?-not k 5 a) ∙ if-true _ _ _ (=?-in k 6 e))
-
-    pub rule_7 : (k ≡ 5 → ⊥) → (k ≡ 6 → ⊥) → k ≡ 7 → r ≡ B7_at S Y s v → r ≡ rule_at k S Y s v
-    unfolding rule_at
-    rule_7 a b e q = q ∙ sym (if-false _ _ _ (=?-not k 5 a) ∙ if-false _ _ _ (=?-not k 6 b) ∙ if-true _ _ _ (=?-in k 7 e))
-
-    pub rule_8 : (k ≡ 5 → ⊥) → (k ≡ 6 → ⊥) → (k ≡ 7 → ⊥) → k ≡ 8 → r ≡ B8_at S Y s v → r ≡ rule_at k S Y s v
-    unfolding rule_at
-    rule_8 a b c e q = q ∙ sym (if-false _ _ _ (=?-not k 5 a) ∙ if-false _ _ _ (=?-not k 6 b) ∙ if-false _ _ _ (=?-not k 7 c) ∙ if-true _ _ _ (=?-in k 8 e))
-
-    pub rule_9 : (k ≡ 5 → ⊥) → (k ≡ 6 → ⊥) → (k ≡ 7 → ⊥) → (k ≡ 8 → ⊥) → r ≡ B9_at S Y s v → r ≡ rule_at k S Y s v
-    unfolding rule_at
-    rule_9 a b c d q =
-        q ∙ sym (if-false _ _ _ (=?-not k 5 a) ∙ if-false _ _ _ (=?-not k 6 b) ∙ if-false _ _ _ (=?-not k 7 c) ∙ if-false _ _ _ (=?-not k 8 d))
 
 -- a composition that is there, and one that is not
 module _ (s n : List ℕ) (test : ℕ → ℕ → Bool) (c v x : ℕ) (y : is_system (systems_of s n) c ≡ true) (ex : bit x ≡ has_version (specs_of s n) c)

@@ -11,8 +11,7 @@ use Rattle.book.specs.Plain.{specs_of, systems_of}
 use Rattle.book.specs.Readers.{member_high}
 use Rattle.model.specs.Book.{Specs, Systems, is_member, is_system, member, requires}
 use Rattle.model.specs.Maps.{has}
-use Rattle.model.specs.Queries.{found}
-use Rattle.model.specs.Rules.{needs, r}
+use Rattle.model.specs.Rules.{needs}
 use Rattle.book_rules.specs.Table.{Kept, member_needs}
 use Rattle.sets.specs.LoopLaws.{union_end, union_turn}
 use Rattle.sets.specs.SetLaws.{bit_zero}

@@ -4,25 +4,26 @@
 ghost use Rattle.std.specs.Prelude.{◌≡◌, ◌<◌};
 ghost use Rattle.model.specs.Book as model;
 ghost use Rattle.model.specs.Questions.{first_no};
-ghost use Rattle.book.specs.Plain.{plain_of};
+ghost use Rattle.book.specs.Plain.{plain};
 ghost use Rattle.command_lists.specs.Views.{numbers_view, compositions_view, usable_view};
 ghost use Rattle.command_lists.specs.Answers.{mod_answer};
 ghost use Rattle.command_questions.specs.Asked.{sys_asked};
 
+use book::Book;
 use command_lists::{Compositions, Numbers, Usable};
 
 // ---- ADD-MOD
 
 // Question 8, of a component that is specified: "is it undefined?"
-fn is_defined<'a>(sets: &'a [u64; 576], numbers: &'a [u8; 8768], c: usize) -> bool
+fn is_defined(book: &Book, c: usize) -> bool
     requires { c < 32 }
-    ensures { result ≡ model.is_defined (plain_of sets.now numbers.now).modules (plain_of sets.now numbers.now).systems c }
+    ensures { result ≡ model.is_defined (plain book.now).modules (plain book.now).systems c }
 {
-    book::is_module(sets, numbers, c) | book::is_system(sets, numbers, c)
+    book.is_module(c) | book.is_system(c)
 }
 
-pub fn mod_answer<'a>(sets: &'a [u64; 576], numbers: &'a [u8; 8768], c: usize, g: Numbers) -> u8
-    ensures { result ≡ mod_answer (plain_of sets.now numbers.now) c (numbers_view g) }
+pub fn mod_answer(book: &Book, c: usize, g: Numbers) -> u8
+    ensures { result ≡ mod_answer (plain book.now) c (numbers_view g) }
 {
     if 32 <= c {
         return 1;
@@ -36,13 +37,13 @@ pub fn mod_answer<'a>(sets: &'a [u64; 576], numbers: &'a [u8; 8768], c: usize, g
     if g.twice {
         return 3;
     }
-    if !book::is_specified(sets, numbers, c) {
+    if !book.is_specified(c) {
         return 4;
     }
-    if is_defined(sets, numbers, c) {
+    if is_defined(book, c) {
         return 8;
     }
-    if book::versions(sets, numbers, c) != g.listed {
+    if book.versions(c) != g.listed {
         return 9;
     }
     0
@@ -51,14 +52,8 @@ pub fn mod_answer<'a>(sets: &'a [u64; 576], numbers: &'a [u8; 8768], c: usize, g
 // ---- ADD-SYS
 
 // Its questions before those that are put to the book afterwards.
-pub fn sys_asked<'a>(
-    sets: &'a [u64; 576],
-    numbers: &'a [u8; 8768],
-    c: usize,
-    u: Usable,
-    g: Compositions,
-) -> u8
-    ensures { result ≡ first_no (sys_asked (plain_of sets.now numbers.now) c (usable_view u) (compositions_view g)) }
+pub fn sys_asked(book: &Book, c: usize, u: Usable, g: Compositions) -> u8
+    ensures { result ≡ first_no (sys_asked (plain book.now) c (usable_view u) (compositions_view g)) }
 {
     if 32 <= c {
         return 1;
@@ -81,22 +76,19 @@ pub fn sys_asked<'a>(
     if u.twice {
         return 3;
     }
-    if !book::is_specified(sets, numbers, c) {
+    if !book.is_specified(c) {
         return 4;
     }
-    if is_defined(sets, numbers, c) {
+    if is_defined(book, c) {
         return 8;
     }
-    if book::versions(sets, numbers, c) != g.listed {
+    if book.versions(c) != g.listed {
         return 9;
     }
-    if !book_rules::all_bare(sets, numbers, c) {
+    if !book_rules::all_bare(book, c) {
         return 16;
     }
-    if !sets::subset(
-        sets::below_32(u.set),
-        book_rules::specified_set(sets, numbers),
-    ) {
+    if !sets::subset(sets::below_32(u.set), book_rules::specified_set(book)) {
         return 17;
     }
     0

@@ -1,8 +1,8 @@
 -- Slices read from the left, entry by entry: what was gathered of the entries before i, and the entries from i on.
-use Rattle.std.specs.Prelude.{Bool, true, ◌≡◌, refl, ◌+◌, ◌-◌, ◌<◌, ◌^◌, ◌≤◌, ℕ, take}
+use Rattle.std.specs.Prelude.{Bool, true, ◌≡◌, refl, ◌+◌, ◌-◌, ◌<◌, ◌^◌, ◌≤◌, ℕ, min, take}
 use mathlib.Core.List.{List, [], ◌∷◌, map}
 use Rattle.std.proofs.Math.Option.{Option}
-use Rattle.std.proofs.Common.{◌∙◌, arith, drop-drop}
+use Rattle.std.proofs.Common.{◌∙◌, arith, drop-drop, inl, inr}
 use Rattle.std.proofs.Math.Path.{ap, fun_ext, sym}
 use Rattle.std.proofs.Math.Numerals.{add-one}
 use Rattle.std.proofs.Math.ListN.{drop, drop_of_length-le, get_or, length, length-drop}
@@ -18,7 +18,7 @@ use Rattle.command_lists.specs.Said.{itself, members_said, paired, usable_of, us
 use Rattle.command_lists.specs.Views.{compositions_view, usable_view}
 use Rattle.sets.specs.SetLaws.{bit_zero}
 use Rattle.sets.specs.Sets.{bit}
-use Rattle.sets.specs.TestLaws.{and-false, and_in, and_no, fails, if-false, if-true, ≤?_in, ≤?_out}
+use Rattle.sets.specs.TestLaws.{and-false, and_in, and_no, fails, if-false, if-true, ≤?_in, ≤?_out, ≤_or_<}
 use Rattle.sets.specs.Tests.{if?◌then◌else◌}
 use Rattle.model_laws.specs.RisingLaws.{rising_below, rising-set}
 use Rattle.command_lists.specs.declared.Compositions.{Compositions}
@@ -59,29 +59,35 @@ module _ {A B G : Type 0} (n : ℕ) (good full single : A → Bool) (what : A �
   pairs_start g e = ap (λ (x : Gathered B). gather n good full single what x (paired n a f xs ys)) (sym e)
 
   module _ (i : ℕ) (g : G) (inv : PairsLeft i g) where
-    pub pairs_turn : (g' : G) → i < length xs → i < length ys → view g' ≡ step n good full single what (view g) (get_or xs i 0, f (get_or ys i 0))
-        → PairsLeft (i + 1) g'
+    -- the two numbers at the place i are taken
+    pub pairs_turn : (g' : G) (j x y : ℕ) → j ≡ i + 1 → i < length xs → i < length ys → x ≡ get_or xs i 0 → y ≡ get_or ys i 0
+        → view g' ≡ step n good full single what (view g) (x, f y) → PairsLeft j g'
     unfolding PairsLeft gather
-    pairs_turn g' h k e =
-        inv ∙ ap (gather n good full single what (view g)) (paired_more n a f xs ys i h k)
-        ∙ ap (λ (x : Gathered B). gather n good full single what x (paired n a f (drop (i + 1) xs) (drop (i + 1) ys))) (sym e)
+    pairs_turn g' j x y ej h k ex ey e =
+        rw ej
+        (inv ∙ ap (gather n good full single what (view g)) (paired_more n a f xs ys i h k)
+        ∙ ap (λ (x : Gathered B). gather n good full single what x (paired n a f (drop (i + 1) xs) (drop (i + 1) ys))) (sym (rw (← ex, ← ey) e)))
 
     pairs-apart : (r : G) → paired n a f (drop i xs) (drop i ys) ≡ (n, a) ∷ [] → view r ≡ step n good full single what (view g) (n, a)
         → view r ≡ gather n good full single what nothing (paired n a f xs ys)
     unfolding PairsLeft gather
     pairs-apart r e q = q ∙ sym (inv ∙ ap (gather n good full single what (view g)) e)
 
-    pub pairs_first : (r : G) → i < length xs → length ys ≤ i → view r ≡ step n good full single what (view g) (n, a)
+    -- one list is at its end, and the other is longer
+    pub pairs_differ : (r : G) → i ≡ min (length xs) (length ys) → (length xs ≡ length ys → ⊥) → view r ≡ step n good full single what (view g) (n, a)
         → view r ≡ gather n good full single what nothing (paired n a f xs ys)
-    pairs_first r h k q = pairs-apart r (paired_first n a f xs ys i h k) q
+    pairs_differ r e d q = elim (≤_or_< (length xs) i) [
+      | inr h ↦ pairs-apart r (paired_first n a f xs ys i h (omega (arith, e, h))) q
+      | inl h ↦ elim (≤_or_< (length ys) i) [
+        | inr k ↦ pairs-apart r (paired_second n a f xs ys i h k) q
+        | inl k ↦ absurd (d (omega (arith, e, h, k)))
+      ]
+    ]
 
-    pub pairs_second : (r : G) → length xs ≤ i → i < length ys → view r ≡ step n good full single what (view g) (n, a)
-        → view r ≡ gather n good full single what nothing (paired n a f xs ys)
-    pairs_second r h k q = pairs-apart r (paired_second n a f xs ys i h k) q
-
-    pub pairs_end : length xs ≤ i → length ys ≤ i → view g ≡ gather n good full single what nothing (paired n a f xs ys)
+    -- both are
+    pub pairs_end : i ≡ min (length xs) (length ys) → length xs ≡ length ys → view g ≡ gather n good full single what nothing (paired n a f xs ys)
     unfolding PairsLeft gather
-    pairs_end h k = sym (inv ∙ ap (gather n good full single what (view g)) (paired_end n a f xs ys i h k))
+    pairs_end e d = sym (inv ∙ ap (gather n good full single what (view g)) (paired_end n a f xs ys i (omega (arith, e, d)) (omega (arith, e, d))))
 
 -- ---- sets of facilities
 
@@ -145,67 +151,76 @@ module _ (vs ls ms xs : List ℕ) where
     unfolding CompositionsLeft compositions_from gather compositions_step
     ends_apart r e q = q ∙ sym (inv ∙ ap (compositions_from (compositions_view g)) e)
 
-    pub lengths_end : (r : Compositions) → i < length vs → length ls ≤ i → compositions_view r ≡ compositions_step (compositions_view g) (versions, [])
+    -- one of the two lists is at its end, and the other is longer
+    pub lengths_differ : (r : Compositions) → i ≡ min (length vs) (length ls) → (length vs ≡ length ls → ⊥) → compositions_view r ≡ compositions_step (compositions_view g) (versions, [])
         → compositions_view r ≡ compositions_of (compositions_said vs ls ms xs)
-    unfolding compositions_said
-    lengths_end r h k q = ends_apart r (rw (drop-cons vs i 0 h, drop_of_length-le ls k)) q
+    unfolding compositions_said non_empty if?◌then◌else◌
+    lengths_differ r e d q = elim (≤_or_< (length vs) i) [
+      | inr h ↦ (let k : length ls ≤ i = omega (arith, e, h) in ends_apart r (rw (drop-cons vs i 0 h, drop_of_length-le ls k)) q)
+      | inl h ↦ elim (≤_or_< (length ls) i) [
+        | inr k ↦ ends_apart r (rw (drop_of_length-le vs h, drop-cons ls i 0 k)) q
+        | inl k ↦ absurd (d (omega (arith, e, h, k)))
+      ]
+    ]
 
-    module _ (h : i < length vs) (k : i < length ls) where
-      one_said : left_said ≡ compositions_said (get_or vs i 0 ∷ drop (i + 1) vs) (get_or ls i 0 ∷ drop (i + 1) ls) (drop a ms) (drop a xs)
-      one_said = rw (drop-cons vs i 0 h, drop-cons ls i 0 k, add-one i)
+    module _ (v l : ℕ) (h : i < length vs) (k : i < length ls) (ev : v ≡ get_or vs i 0) (el : l ≡ get_or ls i 0) where
+      one_said : left_said ≡ compositions_said (v ∷ drop (i + 1) vs) (l ∷ drop (i + 1) ls) (drop a ms) (drop a xs)
+      one_said = rw (drop-cons vs i 0 h, drop-cons ls i 0 k, add-one i, ev, el)
 
-      pub few_members : (r : Compositions) → length ms - a < get_or ls i 0 → compositions_view r ≡ compositions_step (compositions_view g) (versions, [])
+      pub few_members : (r : Compositions) → length ms - a < l → compositions_view r ≡ compositions_step (compositions_view g) (versions, [])
           → compositions_view r ≡ compositions_of (compositions_said vs ls ms xs)
       unfolding compositions_said
-      few_members r l q = ends_apart r (one_said ∙ if-false _ _ _ (and-false _ _ (fails _ (λ t. omega (arith, l, ≤?_out _ _ t, length-drop a ms))))) q
+      few_members r few q = ends_apart r (one_said ∙ if-false _ _ _ (and-false _ _ (fails _ (λ t. omega (arith, few, ≤?_out _ _ t, length-drop a ms))))) q
 
-      pub few_versions : (r : Compositions) → length xs - a < get_or ls i 0 → compositions_view r ≡ compositions_step (compositions_view g) (versions, [])
+      pub few_versions : (r : Compositions) → length xs - a < l → compositions_view r ≡ compositions_step (compositions_view g) (versions, [])
           → compositions_view r ≡ compositions_of (compositions_said vs ls ms xs)
       unfolding compositions_said
-      few_versions r l q = ends_apart r (one_said ∙ if-false _ _ _ (and_no _ _ (λ _. fails _ (λ t. omega (arith, l, ≤?_out _ _ t, length-drop a xs))))) q
+      few_versions r few q = ends_apart r (one_said ∙ if-false _ _ _ (and_no _ _ (λ _. fails _ (λ t. omega (arith, few, ≤?_out _ _ t, length-drop a xs))))) q
 
-      pub compositions_turn : (g' : Compositions) (l : ℕ) (c : Members) → l ≡ get_or ls i 0 → l ≤ length ms - a → l ≤ length xs - a
+      pub compositions_turn : (g' : Compositions) (j : ℕ) (c : Members) → j ≡ i + 1 → l ≤ length ms - a → l ≤ length xs - a
           → c ≡ members_said (take (a + l - a) (drop a ms)) (take (a + l - a) (drop a xs))
-          → compositions_view g' ≡ compositions_step (compositions_view g) (get_or vs i 0, c)
-          → CompositionsLeft (i + 1) (a + l) g'
+          → compositions_view g' ≡ compositions_step (compositions_view g) (v, c)
+          → CompositionsLeft j (a + l) g'
       unfolding CompositionsLeft compositions_said compositions_from gather compositions_step
-      compositions_turn g' l c el lm lx ec e =
-          inv ∙ ap (compositions_from (compositions_view g)) (one_said ∙ if-true _ _ _ (and_in _ _ (≤?_in _ _ fitm) (≤?_in _ _ fitx)) ∙ said)
-          ∙ ap (λ (x : Gathered (Map (Option ℕ))). compositions_from x (compositions_said (drop (i + 1) vs) (drop (i + 1) ls) (drop (a + l) ms) (drop (a + l) xs))) (sym e)
+      compositions_turn g' j c ej lm lx ec e =
+          rw ej
+          (inv ∙ ap (compositions_from (compositions_view g)) (one_said ∙ if-true _ _ _ (and_in _ _ (≤?_in _ _ fitm) (≤?_in _ _ fitx)) ∙ said)
+          ∙ ap (λ (x : Gathered (Map (Option ℕ))). compositions_from x (compositions_said (drop (i + 1) vs) (drop (i + 1) ls) (drop (a + l) ms) (drop (a + l) xs))) (sym e))
         where
-          fitm : get_or ls i 0 ≤ length (drop a ms)
-          fitm = rw (length-drop, ← el) lm
+          fitm : l ≤ length (drop a ms)
+          fitm = rw length-drop lm
 
-          fitx : get_or ls i 0 ≤ length (drop a xs)
-          fitx = rw (length-drop, ← el) lx
+          fitx : l ≤ length (drop a xs)
+          fitx = rw length-drop lx
 
-          back : a + l - a ≡ get_or ls i 0
-          back = omega (arith, el)
+          back : a + l - a ≡ l
+          back = omega arith
 
-          said : ((get_or vs i 0, members_said (take (get_or ls i 0) (drop a ms)) (take (get_or ls i 0) (drop a xs)))
-              ∷ compositions_said (drop (i + 1) vs) (drop (i + 1) ls) (drop (get_or ls i 0) (drop a ms)) (drop (get_or ls i 0) (drop a xs)))
-              ≡ ((get_or vs i 0, c) ∷ compositions_said (drop (i + 1) vs) (drop (i + 1) ls) (drop (a + l) ms) (drop (a + l) xs))
-          said = rw (ec, back, ← el, drop-drop l a ms, drop-drop l a xs)
+          said : ((v, members_said (take l (drop a ms)) (take l (drop a xs)))
+              ∷ compositions_said (drop (i + 1) vs) (drop (i + 1) ls) (drop l (drop a ms)) (drop l (drop a xs)))
+              ≡ ((v, c) ∷ compositions_said (drop (i + 1) vs) (drop (i + 1) ls) (drop (a + l) ms) (drop (a + l) xs))
+          said = rw (ec, back, drop-drop l a ms, drop-drop l a xs)
 
-    module _ (h : length vs ≤ i) where
-      pub lengths_left : (r : Compositions) → i < length ls → compositions_view r ≡ compositions_step (compositions_view g) (versions, [])
-          → compositions_view r ≡ compositions_of (compositions_said vs ls ms xs)
-      unfolding compositions_said non_empty
-      lengths_left r k q = ends_apart r (rw (drop_of_length-le vs h, drop-cons ls i 0 k) (unfold if?◌then◌else◌ in refl)) q
+    module _ (all_done : i ≡ min (length vs) (length ls)) (alike : length vs ≡ length ls) where
+      h : length vs ≤ i
+      h = omega (arith, all_done, alike)
 
-      pub members_left : (r : Compositions) → length ls ≤ i → a < length ms → compositions_view r ≡ compositions_step (compositions_view g) (versions, [])
-          → compositions_view r ≡ compositions_of (compositions_said vs ls ms xs)
-      unfolding compositions_said non_empty if?◌then◌else◌
-      members_left r k l q = ends_apart r (rw (drop_of_length-le vs h, drop_of_length-le ls k, drop-cons ms a 0 l)) q
+      k : length ls ≤ i
+      k = omega (arith, all_done, alike)
 
-      pub versions_left : (r : Compositions) → length ls ≤ i → length ms ≤ a → a < length xs → compositions_view r ≡ compositions_step (compositions_view g) (versions, [])
+      pub members_left : (r : Compositions) → a < length ms → compositions_view r ≡ compositions_step (compositions_view g) (versions, [])
           → compositions_view r ≡ compositions_of (compositions_said vs ls ms xs)
       unfolding compositions_said non_empty if?◌then◌else◌
-      versions_left r k l m q = ends_apart r (rw (drop_of_length-le vs h, drop_of_length-le ls k, drop_of_length-le ms l, drop-cons xs a 0 m)) q
+      members_left r l q = ends_apart r (rw (drop_of_length-le vs h, drop_of_length-le ls k, drop-cons ms a 0 l)) q
 
-      pub compositions_end : length ls ≤ i → length ms ≤ a → length xs ≤ a → compositions_view g ≡ compositions_of (compositions_said vs ls ms xs)
+      pub versions_left : (r : Compositions) → length ms ≤ a → a < length xs → compositions_view r ≡ compositions_step (compositions_view g) (versions, [])
+          → compositions_view r ≡ compositions_of (compositions_said vs ls ms xs)
+      unfolding compositions_said non_empty if?◌then◌else◌
+      versions_left r l m q = ends_apart r (rw (drop_of_length-le vs h, drop_of_length-le ls k, drop_of_length-le ms l, drop-cons xs a 0 m)) q
+
+      pub compositions_end : length ms ≤ a → length xs ≤ a → compositions_view g ≡ compositions_of (compositions_said vs ls ms xs)
       unfolding CompositionsLeft compositions_said non_empty if?◌then◌else◌ compositions_from gather
-      compositions_end k l m =
+      compositions_end l m =
           sym (inv ∙ ap (compositions_from (compositions_view g)) none_left)
         where
           none_left : left_said ≡ []

@@ -16,57 +16,42 @@ const NO_VERSION: usize = 64;
 const NO_COMPONENT: usize = 32;
 
 // Versions, each with the set of facilities that it requires.
-pub fn sets_of<'a>(versions: &'a [usize], required: &'a [u64]) -> Sets
+pub fn sets_of(versions: &[usize], required: &[u64]) -> Sets
     ensures { sets_view result ≡ sets_of (requirements_said versions.now required.now) }
 {
     let mut g = command_lists::no_sets();
-    let mut i = 0;
-    while i < versions.len() {
-        if required.len() <= i {
-            return command_lists::with_set(g, NO_VERSION, 0);
-        }
-        g = command_lists::with_set(g, versions[i], required[i]);
-        i += 1;
+    for (&v, &set) in versions.iter().zip(required) {
+        g = command_lists::with_set(g, v, set);
     }
-    if i < required.len() {
+    if versions.len() != required.len() {
         return command_lists::with_set(g, NO_VERSION, 0);
     }
     g
 }
 
 // Versions, each with its implementation.
-pub fn numbers_of<'a>(versions: &'a [usize], implementations: &'a [usize]) -> Numbers
+pub fn numbers_of(versions: &[usize], implementations: &[usize]) -> Numbers
     ensures { numbers_view result ≡ numbers_of (implementations_said versions.now implementations.now) }
 {
     let mut g = command_lists::no_numbers();
-    let mut i = 0;
-    while i < versions.len() {
-        if implementations.len() <= i {
-            return command_lists::with_number(g, NO_VERSION, 0);
-        }
-        g = command_lists::with_number(g, versions[i], implementations[i]);
-        i += 1;
+    for (&v, &i) in versions.iter().zip(implementations) {
+        g = command_lists::with_number(g, v, i);
     }
-    if i < implementations.len() {
+    if versions.len() != implementations.len() {
         return command_lists::with_number(g, NO_VERSION, 0);
     }
     g
 }
 
 // Members, each with its version or LEFT_OUT.
-pub fn composition_of<'a>(members: &'a [usize], versions: &'a [usize]) -> Composition
+pub fn composition_of(members: &[usize], versions: &[usize]) -> Composition
     ensures { composition_view result ≡ members_of (members_said members.now versions.now) }
 {
     let mut g = command_lists::no_members();
-    let mut i = 0;
-    while i < members.len() {
-        if versions.len() <= i {
-            return command_lists::with_member(g, NO_COMPONENT, command_lists::LEFT_OUT);
-        }
-        g = command_lists::with_member(g, members[i], versions[i]);
-        i += 1;
+    for (&m, &v) in members.iter().zip(versions) {
+        g = command_lists::with_member(g, m, v);
     }
-    if i < versions.len() {
+    if members.len() != versions.len() {
         return command_lists::with_member(g, NO_COMPONENT, command_lists::LEFT_OUT);
     }
     g
@@ -77,10 +62,8 @@ pub fn usable_of(components: &[usize]) -> Usable
     ensures { usable_view result ≡ usable_of components.now }
 {
     let mut g = command_lists::no_usable();
-    let mut i = 0;
-    while i < components.len() {
-        g = command_lists::with_usable(g, components[i]);
-        i += 1;
+    for &c in components {
+        g = command_lists::with_usable(g, c);
     }
     g
 }
@@ -93,12 +76,7 @@ fn apart(g: Compositions) -> Compositions
 }
 
 // The composition that stands from a up to e.
-fn composition_at<'a>(
-    members: &'a [usize],
-    versions: &'a [usize],
-    a: usize,
-    e: usize,
-) -> Composition
+fn composition_at(members: &[usize], versions: &[usize], a: usize, e: usize) -> Composition
     requires { (a ≤ e) × (e ≤ length members.now) × (e ≤ length versions.now) }
     ensures { composition_view result ≡ members_of (members_said (take (e - a) (drop a members.now)) (take (e - a) (drop a versions.now))) }
 {
@@ -106,22 +84,17 @@ fn composition_at<'a>(
 }
 
 // For each version the length of its composition; the members and their versions of all compositions, one after the other.
-pub fn compositions_of<'a>(
-    versions: &'a [usize],
-    lengths: &'a [usize],
-    members: &'a [usize],
-    chosen: &'a [usize],
+pub fn compositions_of(
+    versions: &[usize],
+    lengths: &[usize],
+    members: &[usize],
+    chosen: &[usize],
 ) -> Compositions
     ensures { compositions_view result ≡ compositions_of (compositions_said versions.now lengths.now members.now chosen.now) }
 {
     let mut g = command_lists::no_compositions();
     let mut a = 0;
-    let mut i = 0;
-    while i < versions.len() {
-        if lengths.len() <= i {
-            return apart(g);
-        }
-        let l = lengths[i];
+    for (&v, &l) in versions.iter().zip(lengths) {
         if members.len() - a < l {
             return apart(g);
         }
@@ -129,11 +102,10 @@ pub fn compositions_of<'a>(
             return apart(g);
         }
         let k = composition_at(members, chosen, a, a + l);
-        g = command_lists::with_composition(g, versions[i], k);
-        a = a + l;
-        i += 1;
+        g = command_lists::with_composition(g, v, k);
+        a += l;
     }
-    if i < lengths.len() {
+    if versions.len() != lengths.len() {
         return apart(g);
     }
     if a < members.len() {

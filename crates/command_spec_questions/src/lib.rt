@@ -4,11 +4,12 @@
 ghost use Rattle.std.specs.Prelude.{◌≡◌};
 ghost use Rattle.sets.specs.Sets.{bit, disjoint};
 ghost use Rattle.sets.specs.Tests.{all, ◌⇒◌};
-ghost use Rattle.book.specs.Plain.{plain_of, facility_set};
+ghost use Rattle.book.specs.Plain.{plain, facility_set};
 ghost use Rattle.command_lists.specs.Views.{sets_view};
 ghost use Rattle.command_lists.specs.Answers.{spec_answer};
 ghost use Rattle.command_questions.specs.Asked.{free_at};
 
+use book::Book;
 use command_lists::Sets;
 
 // Question 13, for one version: is what it requires, if it is listed, free of the facilities provided?
@@ -33,15 +34,8 @@ fn all_free(provided: u64, g: Sets) -> bool
     true
 }
 
-pub fn spec_answer<'a>(
-    sets: &'a [u64; 576],
-    numbers: &'a [u8; 8768],
-    c: usize,
-    provided: u64,
-    g: Sets,
-    standard: usize,
-) -> u8
-    ensures { result ≡ spec_answer (plain_of sets.now numbers.now) c (bit provided) (sets_view g) standard }
+pub fn spec_answer(book: &Book, c: usize, provided: u64, g: Sets, standard: usize) -> u8
+    ensures { result ≡ spec_answer (plain book.now) c (bit provided) (sets_view g) standard }
 {
     if 32 <= c {
         return 1;
@@ -58,7 +52,7 @@ pub fn spec_answer<'a>(
     if g.twice {
         return 3;
     }
-    if book::is_specified(sets, numbers, c) {
+    if book.is_specified(c) {
         return 5;
     }
     if 8 < sets::count(g.listed) {

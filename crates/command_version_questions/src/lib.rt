@@ -6,32 +6,26 @@ ghost use Rattle.sets.specs.Sets.{bit};
 ghost use Rattle.sets.specs.Tests.{◌<?◌};
 ghost use Rattle.model.specs.Limits.{how_many};
 ghost use Rattle.model.specs.Questions.{first_no};
-ghost use Rattle.book.specs.Plain.{plain_of};
+ghost use Rattle.book.specs.Plain.{plain};
 ghost use Rattle.command_lists.specs.Views.{composition_view};
 ghost use Rattle.command_lists.specs.Answers.{modvar_answer};
 ghost use Rattle.command_questions.specs.Asked.{sysvar_asked};
 
+use book::Book;
 use command_lists::Composition;
 
 // ---- ADD-MODVAR
 
 // Question 12: "would it have at most 8 versions?"
-fn has_room<'a>(sets: &'a [u64; 576], numbers: &'a [u8; 8768], c: usize) -> bool
+fn has_room(book: &Book, c: usize) -> bool
     requires { c < 32 }
-    ensures { result ≡ (how_many (plain_of sets.now numbers.now).specs c <? 8) }
+    ensures { result ≡ (how_many (plain book.now).specs c <? 8) }
 {
-    sets::count(book::versions(sets, numbers, c)) < 8
+    sets::count(book.versions(c)) < 8
 }
 
-pub fn modvar_answer<'a>(
-    sets: &'a [u64; 576],
-    numbers: &'a [u8; 8768],
-    c: usize,
-    v: usize,
-    required: u64,
-    i: usize,
-) -> u8
-    ensures { result ≡ modvar_answer (plain_of sets.now numbers.now) c v (bit required) i }
+pub fn modvar_answer(book: &Book, c: usize, v: usize, required: u64, i: usize) -> u8
+    ensures { result ≡ modvar_answer (plain book.now) c v (bit required) i }
 {
     if 32 <= c {
         return 1;
@@ -42,16 +36,16 @@ pub fn modvar_answer<'a>(
     if 256 <= i {
         return 1;
     }
-    if !book::is_module(sets, numbers, c) {
+    if !book.is_module(c) {
         return 6;
     }
-    if book::has_version(sets, numbers, c, v) {
+    if book.has_version(c, v) {
         return 11;
     }
-    if !has_room(sets, numbers, c) {
+    if !has_room(book, c) {
         return 12;
     }
-    if !sets::disjoint(book::provides(sets, numbers, c), required) {
+    if !sets::disjoint(book.provides(c), required) {
         return 13;
     }
     0
@@ -60,14 +54,8 @@ pub fn modvar_answer<'a>(
 // ---- ADD-SYSVAR
 
 // Its questions before the one that is put to the book afterwards.
-pub fn sysvar_asked<'a>(
-    sets: &'a [u64; 576],
-    numbers: &'a [u8; 8768],
-    c: usize,
-    v: usize,
-    g: Composition,
-) -> u8
-    ensures { result ≡ first_no (sysvar_asked (plain_of sets.now numbers.now) c v (composition_view g)) }
+pub fn sysvar_asked(book: &Book, c: usize, v: usize, g: Composition) -> u8
+    ensures { result ≡ first_no (sysvar_asked (plain book.now) c v (composition_view g)) }
 {
     if 32 <= c {
         return 1;
@@ -84,13 +72,13 @@ pub fn sysvar_asked<'a>(
     if g.twice {
         return 3;
     }
-    if !book::is_system(sets, numbers, c) {
+    if !book.is_system(c) {
         return 7;
     }
-    if book::has_version(sets, numbers, c, v) {
+    if book.has_version(c, v) {
         return 11;
     }
-    if !has_room(sets, numbers, c) {
+    if !has_room(book, c) {
         return 12;
     }
     0

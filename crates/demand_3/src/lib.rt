@@ -14,20 +14,20 @@ use commands::Outcome;
 use parts::PartsList;
 
 // The call of a number. ADD-SPEC's standard version is v.
-pub fn call<'a>(
+pub fn call(
     b: Book,
     kind: usize,
     c: usize,
     v: usize,
     i: usize,
     set: u64,
-    usable: &'a [usize],
-    versions: &'a [usize],
-    implementations: &'a [usize],
-    lengths: &'a [usize],
-    members: &'a [usize],
-    chosen: &'a [usize],
-    required: &'a [u64],
+    usable: &[usize],
+    versions: &[usize],
+    implementations: &[usize],
+    lengths: &[usize],
+    members: &[usize],
+    chosen: &[usize],
+    required: &[u64],
 ) -> Outcome
     ensures { Called b.sets b.numbers
         (command_of (call_of kind c v i set usable.now versions.now implementations.now lengths.now

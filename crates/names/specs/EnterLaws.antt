@@ -6,7 +6,8 @@ use Rattle.std.proofs.Math.Path.{ap, sym}
 use Rattle.model.specs.Lists.{every, non_empty}
 use Rattle.model.specs.Maps.{is_some, option_map}
 use Rattle.names.specs.PlaceLaws.{lowest_behind, lowest_none, short_there}
-use Rattle.names.specs.Stored.{answered, lowest_free, name_in, place_with, table_of, table_with}
+use Rattle.names.specs.Stored.{lowest_free, name_in, place_with, table_of, table_with}
+use Rattle.sets.specs.Answered.{answered}
 use Rattle.names.specs.UpToLastLaws.{last_length}
 use Rattle.sets.specs.TestLaws.{<?_no, <?_out, bool?, clash, fails, if-false, if-true, or_l, or_r, ≤?_in, ≤?_out}
 use Rattle.sets.specs.Tests.{◌<?◌, ◌≤?◌}
@@ -16,16 +17,16 @@ use Rattle.text.specs.Tables.{Table, enter, place}
 use Rattle.text_laws.specs.Places.{enter_every, place-among, place_there}
 use Rattle.text_laws.specs.TextLaws.{every_cons, every-none, same_refl}
 use Rattle.model_laws.specs.MapLaws.{no_some}
-use Rattle.names.specs.declared.Found.{Found}
-use Rattle.names.specs.declared.Found.TheVariants.{At, Nothing}
+use Rattle.std.specs.Prelude.{Option as Found}
+use Rattle.std.specs.Prelude.{None, Some}
 
 -- ---- what an answer says
 
-pub found_at : (f : Found) (k : ℕ) (o : Option ℕ) → answered f ≡ o → f ≡ At k → o ≡ some k
+pub found_at : (f : Found ℕ) (k : ℕ) (o : Option ℕ) → answered f ≡ o → f ≡ Some k → o ≡ some k
 unfolding answered
 found_at f k o e q = sym e ∙ ap answered q
 
-pub found_nothing : (f : Found) (o : Option ℕ) → answered f ≡ o → f ≡ Nothing → o ≡ none
+pub found_nothing : (f : Found ℕ) (o : Option ℕ) → answered f ≡ o → f ≡ None → o ≡ none
 unfolding answered
 found_nothing f o e q = sym e ∙ ap answered q
 
@@ -43,14 +44,14 @@ pub table-length : (n : ℕ) (bytes : List ℕ) → length (table_of n bytes) �
 unfolding table_of
 table-length n bytes = last_length n (name_in bytes)
 
-module _ (n : ℕ) (bytes : List ℕ) (w : Name) (f : Found) (k : ℕ) (e : answered f ≡ place (table_of n bytes) w) (q : f ≡ At k) where
+module _ (n : ℕ) (bytes : List ℕ) (w : Name) (f : Found ℕ) (k : ℕ) (e : answered f ≡ place (table_of n bytes) w) (q : f ≡ Some k) where
   held : enter (table_of n bytes) (w ∷ []) ≡ table_of n bytes
   held = enter_held (table_of n bytes) w (place-among (table_of n bytes) w k (found_at f k _ e q))
 
   fits_held : (length (enter (table_of n bytes) (w ∷ [])) ≤? n) ≡ true
   fits_held = ≤?_in _ _ (subst (λ (t : Table). length t ≤ n) (sym held) (table-length n bytes))
 
-  pub held_place : answered (At k) ≡ place_with n (table_of n bytes) w
+  pub held_place : answered (Some k) ≡ place_with n (table_of n bytes) w
   unfolding place_with
   held_place = sym (if-true _ _ _ fits_held ∙ ap (λ (t : Table). place t w) held ∙ sym e ∙ ap answered q)
 
@@ -70,8 +71,8 @@ place_new (x ∷ xs) w a =
 not-among : (t : Table) (w : Name) → place t w ≡ none → among w t ≡ false
 not-among t w e = fails _ (λ a. clash (place_there t w a) (ap is_some e ∙ (unfold is_some in refl)))
 
-pub behind_last : (n : ℕ) (t : Table) (f : Found) (k : ℕ) → every non_empty t ≡ true → length t ≤ n
-    → answered f ≡ lowest_free n t → f ≡ At k → (k < n) × (k ≡ length t)
+pub behind_last : (n : ℕ) (t : Table) (f : Found ℕ) (k : ℕ) → every non_empty t ≡ true → length t ≤ n
+    → answered f ≡ lowest_free n t → f ≡ Some k → (k < n) × (k ≡ length t)
 behind_last n t f k h l e q =
     elim (bool? (length t <? n)) [
       | inl y ↦ (let o = <?_out _ _ y in
@@ -80,7 +81,7 @@ behind_last n t f k h l e q =
       | inr y ↦ no_some (sym (lowest_none n t h (<?_no _ _ y)) ∙ found_at f k _ e q)
     ]
 
-no_more : (n : ℕ) (t : Table) (f : Found) → every non_empty t ≡ true → answered f ≡ lowest_free n t → f ≡ Nothing → n ≤ length t
+no_more : (n : ℕ) (t : Table) (f : Found ℕ) → every non_empty t ≡ true → answered f ≡ lowest_free n t → f ≡ None → n ≤ length t
 no_more n t f h e q =
     elim (bool? (length t <? n)) [
       | inl y ↦ no_some (sym (found_nothing f _ e q) ∙ lowest_behind n t h (<?_out _ _ y))
@@ -94,7 +95,7 @@ module _ (n : ℕ) (t : Table) (w : Name) (a : place t w ≡ none) where
   fits_new : length t < n → (length (enter t (w ∷ [])) ≤? n) ≡ true
   fits_new h = let e = new_length in ≤?_in _ _ (omega arith)
 
-  pub new_place : (k : ℕ) → k < n → k ≡ length t → answered (At k) ≡ place_with n t w
+  pub new_place : (k : ℕ) → k < n → k ≡ length t → answered (Some k) ≡ place_with n t w
   unfolding place_with answered
   new_place k h e =
       ap some e ∙ sym (if-true _ _ _ (fits_new (omega arith)) ∙ ap (λ (u : Table). place u w) (enter_new t w (not-among t w a))
@@ -104,18 +105,18 @@ module _ (n : ℕ) (t : Table) (w : Name) (a : place t w ≡ none) where
   unfolding table_with
   new_table k u h e q = q ∙ sym (if-true _ _ _ (fits_new (omega arith)) ∙ enter_new t w (not-among t w a))
 
-  full : (f : Found) → every non_empty t ≡ true → answered f ≡ lowest_free n t → f ≡ Nothing
+  full : (f : Found ℕ) → every non_empty t ≡ true → answered f ≡ lowest_free n t → f ≡ None
       → (length (enter t (w ∷ [])) ≤? n) ≡ false
   full f h e q =
       let l = no_more n t f h e q in let m = new_length in
       fails _ (λ y. let o = ≤?_out _ _ y in absurd (omega arith))
 
-  pub full_place : (f : Found) → every non_empty t ≡ true → answered f ≡ lowest_free n t → f ≡ Nothing
-      → answered Nothing ≡ place_with n t w
+  pub full_place : (f : Found ℕ) → every non_empty t ≡ true → answered f ≡ lowest_free n t → f ≡ None
+      → answered None ≡ place_with n t w
   unfolding place_with answered
   full_place f h e q = sym (if-false _ _ _ (full f h e q))
 
-  pub full_table : (f : Found) → every non_empty t ≡ true → answered f ≡ lowest_free n t → f ≡ Nothing → t ≡ table_with n t w
+  pub full_table : (f : Found ℕ) → every non_empty t ≡ true → answered f ≡ lowest_free n t → f ≡ None → t ≡ table_with n t w
   unfolding table_with
   full_table f h e q = sym (if-false _ _ _ (full f h e q))
 

@@ -5,7 +5,8 @@ use Rattle.std.proofs.Math.Option.{none, some}
 use native.Mathlib.Omega.{arith}
 use Rattle.model.specs.Lists.{every, first_from, non_empty}
 use Rattle.model.specs.Maps.{else_try, only_if, option_map}
-use Rattle.names.specs.Stored.{answered, lowest_free, name_in, table_of}
+use Rattle.names.specs.Stored.{lowest_free, name_in, table_of}
+use Rattle.sets.specs.Answered.{answered}
 use Rattle.names.specs.UpToLastLaws.{last_at, last_length}
 use Rattle.sets.specs.TestLaws.{=?-not, =?-same, and_l, and_r, any_in, clash, fails, if-false, if-true, not_in, not_out, same?}
 use Rattle.sets.specs.TestLaws.{≤?_out}
@@ -13,7 +14,7 @@ use Rattle.sets.specs.Tests.{◌=?◌, any, ~◌}
 use Rattle.text.specs.Bytes.{same, short}
 use Rattle.text.specs.Language.{Name}
 use Rattle.text.specs.Tables.{Table, name_at, place}
-use Rattle.names.specs.declared.Found.TheVariants.{At, Nothing}
+use Rattle.std.specs.Prelude.{None, Some}
 
 none_before : (n : ℕ) (f : ℕ → Bool) → any n f ≡ false → (i : ℕ) → i < n → f i ≡ false
 none_before n f a i l = fails _ (λ t. clash (any_in n f i l t) a)
@@ -88,14 +89,14 @@ unfolding stands_at
 held_is bytes w i r e = e
 
 pub lookup_stop : (n : ℕ) (bytes : List ℕ) (w : Name) (k : ℕ) (r : Bool) → short w ≡ true → k < n
-    → any k (stands_at bytes w) ≡ false → r ≡ same w (name_in bytes k) → r ≡ true → answered (At k) ≡ place (table_of n bytes) w
+    → any k (stands_at bytes w) ≡ false → r ≡ same w (name_in bytes k) → r ≡ true → answered (Some k) ≡ place (table_of n bytes) w
 unfolding answered stands_at
 lookup_stop n bytes w k r s h a e t =
     sym (place_at (table_of n bytes) w k (short_there w s)
     (λ i l. at_table n bytes w i (omega arith) ∙ none_before k (stands_at bytes w) a i l) (at_table n bytes w k h ∙ sym e ∙ t))
 
 pub lookup_end : (n : ℕ) (bytes : List ℕ) (w : Name) (k : ℕ) → k ≤ n → n ≤ k → any k (stands_at bytes w) ≡ false
-    → answered Nothing ≡ place (table_of n bytes) w
+    → answered None ≡ place (table_of n bytes) w
 unfolding answered table_of
 lookup_end n bytes w k h g a =
     let l = last_length n (name_in bytes) in
@@ -117,14 +118,14 @@ unfolding table_of free_at
 free-table n bytes i h = ap (λ (x : Name). ~ non_empty x) (last_at n (name_in bytes) i h)
 
 pub free_stop : (n : ℕ) (bytes : List ℕ) (k : ℕ) (r : Bool) → k < n → any k (free_at bytes) ≡ false
-    → r ≡ ~ non_empty (name_in bytes k) → r ≡ true → answered (At k) ≡ lowest_free n (table_of n bytes)
+    → r ≡ ~ non_empty (name_in bytes k) → r ≡ true → answered (Some k) ≡ lowest_free n (table_of n bytes)
 unfolding answered lowest_free free_at
 free_stop n bytes k r h a e t =
     sym (first_at n 0 k (λ i. ~ non_empty (name_at (table_of n bytes) i)) zero-le (omega arith)
     (λ i l. free-table n bytes i (omega arith) ∙ none_before k (free_at bytes) a i l) (free-table n bytes k h ∙ sym e ∙ t))
 
 pub free_end : (n : ℕ) (bytes : List ℕ) (k : ℕ) → k ≤ n → n ≤ k → any k (free_at bytes) ≡ false
-    → answered Nothing ≡ lowest_free n (table_of n bytes)
+    → answered None ≡ lowest_free n (table_of n bytes)
 unfolding answered lowest_free
 free_end n bytes k h g a =
     sym (first_none n 0 (λ i. ~ non_empty (name_at (table_of n bytes) i))

@@ -1,15 +1,14 @@
 -- What the bytes of a table of names mean: a `Table` of crate text. Each place has 33 bytes, the length of its name and then
 -- the name.
 use Rattle.std.specs.Prelude.{Bool, true, List, [], ◌∷◌, ◌*◌, ◌+◌, suc, zero, ℕ, drop, get_or, length, take}
-use Rattle.std.proofs.Math.Option.{Option, none, some}
+use Rattle.std.proofs.Math.Option.{Option, none}
 use Rattle.model.specs.Book.{components, facilities, implementations, versions}
 use Rattle.model.specs.Lists.{first_from, non_empty}
 use Rattle.model.specs.Maps.{is_some, only_if}
 use Rattle.sets.specs.Tests.{◌&◌, ◌≤?◌, if?◌then◌else◌, ~◌}
+use Rattle.names.specs.declared.Names.{Names}
 use Rattle.text.specs.Language.{Name}
 use Rattle.text.specs.Tables.{Table, Tables, enter, name_at, place}
-use Rattle.names.specs.declared.Found.{Found}
-use Rattle.names.specs.declared.Found.TheVariants.{At, Nothing}
 
 -- the name at place k: none (the place is free) where the length is 0 or more than 32
 unfoldable pub name_in : List ℕ → ℕ → Name
@@ -39,14 +38,13 @@ tables_of c v f i = record {
   impls = table_of implementations i;
 }
 
+-- the four tables that are handed on together
+abbrev pub tables : Names → Tables
+tables n = tables_of n.comps n.vers n.facs n.impls
+
 -- the lowest of n places that holds no name
 unfoldable pub lowest_free : ℕ → Table → Option ℕ
 lowest_free n t = first_from n 0 (λ i. only_if (~ non_empty (name_at t i)) i)
-
--- what the code's answer says
-unfoldable pub answered : Found → Option ℕ
-answered (At k) = some k
-answered Nothing = none
 
 -- a word put into a table of n places, if it is new: where it then stands (`none`: "is there a place for each new name? no: 24")
 unfoldable pub place_with : ℕ → Table → Name → Option ℕ

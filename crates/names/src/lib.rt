@@ -9,7 +9,8 @@ ghost use Rattle.model.specs.Lists.{every, non_empty};
 ghost use Rattle.text.specs.Bytes.{short};
 ghost use Rattle.text.specs.Bytes as text;
 ghost use Rattle.text.specs.Tables.{place, no_names};
-ghost use Rattle.names.specs.Stored.{name_in, table_of, tables_of, lowest_free, answered, place_with, table_with};
+ghost use Rattle.names.specs.Stored.{name_in, table_of, tables_of, lowest_free, place_with, table_with};
+ghost use Rattle.sets.specs.Answered.{answered};
 
 // The bytes of a place.
 const WIDTH: usize = 33;
@@ -21,13 +22,6 @@ pub struct Names {
     pub vers: [u8; 2112],
     pub facs: [u8; 2112],
     pub impls: [u8; 8448],
-}
-
-// A place of a table, or none.
-#[derive(Clone, Copy)]
-pub enum Found {
-    At(usize),
-    Nothing,
 }
 
 // The tables of a fresh session.
@@ -42,12 +36,6 @@ pub fn no_names() -> Names
     }
 }
 
-fn wide(x: u8) -> usize
-    ensures { result ≡ x }
-{
-    x as usize
-}
-
 // Whether place k holds the word.
 pub fn holds(names: &[u8], places: usize, k: usize, word: &[u8]) -> bool
     requires names_len { length names.now ≡ places * 33 }
@@ -55,27 +43,23 @@ pub fn holds(names: &[u8], places: usize, k: usize, word: &[u8]) -> bool
     requires word_value { short word.now ≡ true }
     ensures { result ≡ text.same word.now (name_in names.now k) }
 {
-    let a = k * WIDTH;
-    if wide(names[a]) != word.len() {
-        return false;
-    }
-    let b = a + 1;
-    let e = b + word.len();
-    seqs::same(word, &names[b..e])
+    let start = k * WIDTH + 1;
+    usize::from(names[k * WIDTH]) == word.len()
+        && seqs::same(word, &names[start..start + word.len()])
 }
 
 // The place of a word.
-pub fn lookup(names: &[u8], places: usize, word: &[u8]) -> Found
+pub fn lookup(names: &[u8], places: usize, word: &[u8]) -> Option<usize>
     requires names_len { length names.now ≡ places * 33 }
     requires word_value { short word.now ≡ true }
     ensures { answered result ≡ place (table_of places names.now) word.now }
 {
     for k in 0..places {
         if holds(names, places, k, word) {
-            return Found::At(k);
+            return Some(k);
         }
     }
-    Found::Nothing
+    None
 }
 
 fn is_free(names: &[u8], places: usize, k: usize) -> bool
@@ -83,21 +67,21 @@ fn is_free(names: &[u8], places: usize, k: usize) -> bool
     requires k_lt_places { k < places }
     ensures { result ≡ ~ non_empty (name_in names.now k) }
 {
-    let n = wide(names[k * WIDTH]);
-    (n == 0) | (32 < n)
+    let length = usize::from(names[k * WIDTH]);
+    length == 0 || 32 < length
 }
 
 // The lowest free place.
-pub fn lowest_free(names: &[u8], places: usize) -> Found
+pub fn lowest_free(names: &[u8], places: usize) -> Option<usize>
     requires { length names.now ≡ places * 33 }
     ensures { answered result ≡ lowest_free places (table_of places names.now) }
 {
     for k in 0..places {
         if is_free(names, places, k) {
-            return Found::At(k);
+            return Some(k);
         }
     }
-    Found::Nothing
+    None
 }
 
 // The word at the first place behind the last name.
@@ -108,14 +92,13 @@ fn put(names: &mut [u8], places: usize, k: usize, word: &[u8])
     requires word_value { short word.now ≡ true }
     ensures { table_of places names.new ≡ table_of places names.old ++ (word.now ∷ []) }
 {
-    let a = k * WIDTH;
-    let b = a + 1;
-    seqs::copy(word, &mut names[b..]);
-    names[a] = word.len() as u8;
+    let start = k * WIDTH;
+    seqs::copy(word, &mut names[start + 1..]);
+    names[start] = word.len() as u8;
 }
 
 // A new word put at the lowest free place: the place, or that there is none. No place before the last name is free.
-fn put_new(names: &mut [u8], places: usize, word: &[u8]) -> Found
+fn put_new(names: &mut [u8], places: usize, word: &[u8]) -> Option<usize>
     requires names_len { length names.old ≡ places * 33 }
     requires names_value { every non_empty (table_of places names.old) ≡ true }
     requires word_value { short word.now ≡ true }
@@ -123,24 +106,21 @@ fn put_new(names: &mut [u8], places: usize, word: &[u8]) -> Found
     ensures result_value { answered result ≡ place_with places (table_of places names.old) word.now }
     ensures names_after { table_of places names.new ≡ table_with places (table_of places names.old) word.now }
 {
-    let Found::At(k) = lowest_free(names, places) else {
-        return Found::Nothing;
-    };
+    let k = lowest_free(names, places)?;
     put(names, places, k, word);
-    Found::At(k)
+    Some(k)
 }
 
 // The place of a word, put in where it is new; or that there is no room, and the table is as it was.
-pub fn enter(names: &mut [u8], places: usize, word: &[u8]) -> Found
+pub fn enter(names: &mut [u8], places: usize, word: &[u8]) -> Option<usize>
     requires names_len { length names.old ≡ places * 33 }
     requires names_value { every non_empty (table_of places names.old) ≡ true }
     requires word_value { short word.now ≡ true }
     ensures result_value { answered result ≡ place_with places (table_of places names.old) word.now }
     ensures names_after { table_of places names.new ≡ table_with places (table_of places names.old) word.now }
 {
-    let found = lookup(names, places, word);
-    if let Found::At(k) = found {
-        return Found::At(k);
+    match lookup(names, places, word) {
+        Some(k) => Some(k),
+        None => put_new(names, places, word),
     }
-    put_new(names, places, word)
 }

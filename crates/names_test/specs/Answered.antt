@@ -1,7 +1,9 @@
 -- The call for the text of a Book with tables handed in: its answer, and the slice after it.
 use Rattle.std.specs.Prelude.{Bool, List, ◌≡◌, ℕ, length}
+use Rattle.book.specs.declared.Book.{Book as Stored}
 use Rattle.book.specs.Plain.{plain_of}
 use Rattle.names.specs.Stored.{tables_of}
+use Rattle.names.specs.declared.Names.{Names}
 use Rattle.book_rules.specs.Test as test
 use Rattle.seqs.specs.Filled.{filled}
 use Rattle.sets.specs.Tests.{◌&◌, ◌=?◌, ◌≤?◌, if?◌then◌else◌}
@@ -13,6 +15,10 @@ use Rattle.names_test.specs.declared.Text.{Text}
 -- the book and the tables that are handed in, by their six arrays
 unfoldable pub handed : List ℕ → List ℕ → List ℕ → List ℕ → List ℕ → List ℕ → State
 handed s n c v f i = record { book = plain_of s n; tables = tables_of c v f i }
+
+-- the same by the structs of the code
+abbrev pub handed_in : Stored → Names → State
+handed_in b n = handed b.sets b.numbers n.comps n.vers n.facs n.impls
 
 module _ (s n c v f i : List ℕ) where
   -- "Any call that takes a book: are its numbers below their limits, .. For text also: do the tables hand in one valid name for each
@@ -37,3 +43,7 @@ pub record TextCall (s n c v f i old : List ℕ) (r : Text) (new : List ℕ) : T
   pub answer : r.answer ≡ text_answer s n c v f i old
   pub len : r.len ≡ text_len s n c v f i old
   pub slice : new ≡ slice_with s n c v f i old
+
+-- the same of the structs of the code
+abbrev pub IsTextCall : Stored → Names → List ℕ → Text → List ℕ → Type 0
+IsTextCall b n old r new = TextCall b.sets b.numbers n.comps n.vers n.facs n.impls old r new

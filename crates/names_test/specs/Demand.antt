@@ -1,5 +1,5 @@
 -- Demand 2 of the call for a text: where it answers 0 or 22, what it has then written, and equal texts.
-use Rattle.std.specs.Prelude.{false, true, ◌↔◌, ◌⊎◌, ◌≡◌, ◌≤◌, ℕ}
+use Rattle.std.specs.Prelude.{false, true, ◌↔◌, ◌⊎◌, ◌≡◌, ℕ}
 use mathlib.Core.List.{List}
 use Rattle.std.proofs.Math.Logic.{inl, inr}
 use Rattle.std.proofs.Common.{◌∙◌, sym, arith}

@@ -9,8 +9,11 @@ ghost use Rattle.model.specs.Book.{has_version};
 ghost use Rattle.book.specs.Plain.{specs_of};
 ghost use Rattle.names.specs.Stored.{table_of};
 ghost use Rattle.text.specs.Handed.{none_twice, version_named, component_named, names_hold};
-ghost use Rattle.names_test.specs.Answered.{handed};
+ghost use Rattle.names_test.specs.Answered.{handed_in};
 ghost use Rattle.names_test.specs.Named.{apart_from, new_at, named_if, implementation_named, version_if, component_if};
+
+use book::Book;
+use names::Names;
 
 // ---- no name twice
 
@@ -86,141 +89,77 @@ fn all_named(facs: &[u8; 2112], set: u64) -> bool
     true
 }
 
-fn wide(x: u8) -> usize
-    ensures { result ≡ x }
-{
-    x as usize
-}
-
 // The implementation of version v of component c, if it is a module.
-fn implementation_named<'a>(
-    sets: &'a [u64; 576],
-    numbers: &'a [u8; 8768],
-    comps: &'a [u8; 1056],
-    vers: &'a [u8; 2112],
-    facs: &'a [u8; 2112],
-    impls: &'a [u8; 8448],
-    c: usize,
-    v: usize,
-) -> bool
+fn implementation_named(book: &Book, names: &Names, c: usize, v: usize) -> bool
     requires c_bound { c < 32 }
-    requires v_value { has_version (specs_of sets.now numbers.now) c v ≡ true }
-    ensures { result ≡ implementation_named (handed sets.now numbers.now comps.now vers.now facs.now impls.now) c v }
+    requires v_value { has_version (specs_of book.now.sets book.now.numbers) c v ≡ true }
+    ensures { result ≡ implementation_named (handed_in book.now names.now) c v }
 {
-    if !book::is_module(sets, numbers, c) {
+    if !book.is_module(c) {
         return true;
     }
-    let i = wide(book::implementation(sets, numbers, c, v));
-    words::is_valid_implementation(write_bytes::name(impls, 256, i))
+    let i = usize::from(book.implementation(c, v));
+    words::is_valid_implementation(write_bytes::name(&names.impls, 256, i))
 }
 
-fn version_named<'a>(
-    sets: &'a [u64; 576],
-    numbers: &'a [u8; 8768],
-    comps: &'a [u8; 1056],
-    vers: &'a [u8; 2112],
-    facs: &'a [u8; 2112],
-    impls: &'a [u8; 8448],
-    c: usize,
-    v: usize,
-) -> bool
+fn version_named(book: &Book, names: &Names, c: usize, v: usize) -> bool
     requires c_bound { c < 32 }
-    requires v_value { has_version (specs_of sets.now numbers.now) c v ≡ true }
-    ensures { result ≡ version_named (handed sets.now numbers.now comps.now vers.now facs.now impls.now) c v }
+    requires v_value { has_version (specs_of book.now.sets book.now.numbers) c v ≡ true }
+    ensures { result ≡ version_named (handed_in book.now names.now) c v }
 {
-    let own = words::is_valid_name(write_bytes::name(vers, 64, v));
-    let required = all_named(facs, book::required(sets, numbers, c, v));
-    let implementation = implementation_named(sets, numbers, comps, vers, facs, impls, c, v);
+    let own = words::is_valid_name(write_bytes::name(&names.vers, 64, v));
+    let required = all_named(&names.facs, book.required(c, v));
+    let implementation = implementation_named(book, names, c, v);
     own & (required & implementation)
 }
 
-fn version_if<'a>(
-    sets: &'a [u64; 576],
-    numbers: &'a [u8; 8768],
-    comps: &'a [u8; 1056],
-    vers: &'a [u8; 2112],
-    facs: &'a [u8; 2112],
-    impls: &'a [u8; 8448],
-    c: usize,
-    v: usize,
-) -> bool
+fn version_if(book: &Book, names: &Names, c: usize, v: usize) -> bool
     requires { c < 32 }
-    ensures { result ≡ version_if (handed sets.now numbers.now comps.now vers.now facs.now impls.now) c v }
+    ensures { result ≡ version_if (handed_in book.now names.now) c v }
 {
-    if book::has_version(sets, numbers, c, v) {
-        return version_named(sets, numbers, comps, vers, facs, impls, c, v);
+    if book.has_version(c, v) {
+        return version_named(book, names, c, v);
     }
     true
 }
 
-fn versions_named<'a>(
-    sets: &'a [u64; 576],
-    numbers: &'a [u8; 8768],
-    comps: &'a [u8; 1056],
-    vers: &'a [u8; 2112],
-    facs: &'a [u8; 2112],
-    impls: &'a [u8; 8448],
-    c: usize,
-) -> bool
+fn versions_named(book: &Book, names: &Names, c: usize) -> bool
     requires { c < 32 }
-    ensures { result ≡ all 64 (version_if (handed sets.now numbers.now comps.now vers.now facs.now impls.now) c) }
+    ensures { result ≡ all 64 (version_if (handed_in book.now names.now) c) }
 {
     for v in 0..64 {
-        if !version_if(sets, numbers, comps, vers, facs, impls, c, v) {
+        if !version_if(book, names, c, v) {
             return false;
         }
     }
     true
 }
 
-fn component_named<'a>(
-    sets: &'a [u64; 576],
-    numbers: &'a [u8; 8768],
-    comps: &'a [u8; 1056],
-    vers: &'a [u8; 2112],
-    facs: &'a [u8; 2112],
-    impls: &'a [u8; 8448],
-    c: usize,
-) -> bool
+fn component_named(book: &Book, names: &Names, c: usize) -> bool
     requires { c < 32 }
-    ensures { result ≡ component_named (handed sets.now numbers.now comps.now vers.now facs.now impls.now) c }
+    ensures { result ≡ component_named (handed_in book.now names.now) c }
 {
-    let own = words::is_valid_name(write_bytes::name(comps, 32, c));
-    let provided = all_named(facs, book::provides(sets, numbers, c));
-    let versions = versions_named(sets, numbers, comps, vers, facs, impls, c);
+    let own = words::is_valid_name(write_bytes::name(&names.comps, 32, c));
+    let provided = all_named(&names.facs, book.provides(c));
+    let versions = versions_named(book, names, c);
     own & (provided & versions)
 }
 
-fn component_if<'a>(
-    sets: &'a [u64; 576],
-    numbers: &'a [u8; 8768],
-    comps: &'a [u8; 1056],
-    vers: &'a [u8; 2112],
-    facs: &'a [u8; 2112],
-    impls: &'a [u8; 8448],
-    c: usize,
-) -> bool
+fn component_if(book: &Book, names: &Names, c: usize) -> bool
     requires { c < 32 }
-    ensures { result ≡ component_if (handed sets.now numbers.now comps.now vers.now facs.now impls.now) c }
+    ensures { result ≡ component_if (handed_in book.now names.now) c }
 {
-    if book::is_specified(sets, numbers, c) {
-        return component_named(sets, numbers, comps, vers, facs, impls, c);
+    if book.is_specified(c) {
+        return component_named(book, names, c);
     }
     true
 }
 
-fn components_named<'a>(
-    sets: &'a [u64; 576],
-    numbers: &'a [u8; 8768],
-    comps: &'a [u8; 1056],
-    vers: &'a [u8; 2112],
-    facs: &'a [u8; 2112],
-    impls: &'a [u8; 8448],
-) -> bool
-    ensures { result ≡ all 32 (component_if (handed sets.now numbers.now comps.now vers.now facs.now impls.now)) }
+fn components_named(book: &Book, names: &Names) -> bool
+    ensures { result ≡ all 32 (component_if (handed_in book.now names.now)) }
 {
     for c in 0..32 {
-        if !component_if(sets, numbers, comps, vers, facs, impls, c) {
+        if !component_if(book, names, c) {
             return false;
         }
     }
@@ -228,21 +167,14 @@ fn components_named<'a>(
 }
 
 // "one valid name for each number in the book, no name twice in a table"
-pub fn names_hold<'a>(
-    sets: &'a [u64; 576],
-    numbers: &'a [u8; 8768],
-    comps: &'a [u8; 1056],
-    vers: &'a [u8; 2112],
-    facs: &'a [u8; 2112],
-    impls: &'a [u8; 8448],
-) -> bool
-    ensures { result ≡ names_hold (handed sets.now numbers.now comps.now vers.now facs.now impls.now) }
+pub fn names_hold(book: &Book, names: &Names) -> bool
+    ensures { result ≡ names_hold (handed_in book.now names.now) }
 {
-    let named = components_named(sets, numbers, comps, vers, facs, impls);
-    let comps_once = none_twice(comps, 32);
-    let vers_once = none_twice(vers, 64);
-    let facs_once = none_twice(facs, 64);
-    let impls_once = none_twice(impls, 256);
+    let named = components_named(book, names);
+    let comps_once = none_twice(&names.comps, 32);
+    let vers_once = none_twice(&names.vers, 64);
+    let facs_once = none_twice(&names.facs, 64);
+    let impls_once = none_twice(&names.impls, 256);
     named & (comps_once & (vers_once & (facs_once & impls_once)))
 }
 

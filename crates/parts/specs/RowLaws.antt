@@ -1,6 +1,6 @@
 -- Laws of the loop that finds the rows.
 use Rattle.std.specs.Prelude.{Bool, true, List, [], ◌++◌, ◌∷◌, map, ◌≡◌, refl, ◌%◌, ◌+◌, ◌-◌, ◌/◌, ◌<◌, ◌≤◌, suc, ℕ, get_or, length, replicate, set, take}
-use Rattle.std.proofs.Common.{append_assoc, append-nil, ◌∙◌, ap₂, subst, arith, length-append, length-set, length-take-le, take-suc, le_antisymm, add-one}
+use Rattle.std.proofs.Common.{append_assoc, append-nil, ◌∙◌, ap₂, subst, arith, length-append, length-set}
 use Rattle.std.proofs.lemmas.List.{map-append, length-map, length-replicate}
 use Rattle.std.proofs.Math.Path.{ap, sym}
 use Rattle.std.proofs.Math.Seq.{take_at}
@@ -100,18 +100,3 @@ module _ (b : Book) (c v k : ℕ) (a : List ℕ) (z : AllRows b c v k a) where
   pub rows_are : take k a ≡ map row_number (parts b c v)
   unfolding filled
   rows_are = ap (take k) z.array ∙ take_at (map row_number (parts b c v)) _ k row_count
-
--- ---- the loop that writes them
-
-pub write_start : (a old : List ℕ) → old ≡ filled (take 0 a) old
-unfolding filled
-write_start a old = refl
-
-pub write_turn : (a old out : List ℕ) (i : ℕ) → i < length a → i < length old → out ≡ filled (take i a) old → set out i (get_or a i 0) ≡ filled (take (i + 1) a) old
-write_turn a old out i l h e =
-    ap (λ (o : List ℕ). set o i (get_or a i 0)) e
-    ∙ filled-set 0 (take i a) old i (get_or a i 0) (sym (length-take-le i a (omega (arith, l)))) h
-    ∙ ap (λ (x : List ℕ). filled x old) (sym (take-suc a i 0 l) ∙ ap (λ (n : ℕ). take n a) (sym (add-one i)))
-
-pub write_end : (a old out : List ℕ) (i n : ℕ) → i ≤ n → n ≤ i → out ≡ filled (take i a) old → out ≡ filled (take n a) old
-write_end a old out i n h k e = e ∙ ap (λ (m : ℕ). filled (take m a) old) (le_antisymm h k)

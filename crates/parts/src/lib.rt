@@ -4,7 +4,7 @@
 ghost use Rattle.std.specs.Prelude.{◌≡◌, true, ◌+◌, ◌≤◌, ◌<◌, take, length};
 ghost use Rattle.model.specs.PartsList.{how_many_systems, first_pair};
 ghost use Rattle.seqs.specs.Filled.{filled};
-ghost use Rattle.book.specs.Plain.{plain_of};
+ghost use Rattle.book.specs.Plain.{plain};
 ghost use Rattle.parts.specs.Listed.{Listed, Refused};
 ghost use Rattle.sets.specs.Sets.{bit};
 ghost use Rattle.model.specs.Book.{has_version, is_member};
@@ -27,49 +27,42 @@ struct Rows {
 
 // Marks version v of component c and all that it is made from. A pair is marked after its members, so what is marked need not be walked
 // again; what falls is the number of systems that can still be met below.
-fn mark<'a>(
-    sets: &'a [u64; 576],
-    numbers: &'a [u8; 8768],
-    c: usize,
-    v: usize,
-    marks: &mut [u64; 32],
-)
+fn mark(book: &Book, c: usize, v: usize, marks: &mut [u64; 32])
     requires c_bound { (c < 32) × (v < 64) }
-    requires good { Good (plain_of sets.now numbers.now) }
-    requires closed { Closed (plain_of sets.now numbers.now).systems marks.old }
-    ensures { Marked (plain_of sets.now numbers.now).systems c v marks.old marks.new }
+    requires good { Good (plain book.now) }
+    requires closed { Closed (plain book.now).systems marks.old }
+    ensures { Marked (plain book.now).systems c v marks.old marks.new }
 {
     if sets::member(marks[c], v) {
         return;
     }
-    let members = book::members(sets, numbers, c, v);
+    let members = book.members(c, v);
     for m in 0..32 {
         if sets::member(members, m) {
-            let w = book::member_version(sets, numbers, c, v, m);
-            mark(sets, numbers, m, w, marks);
+            let w = book.member_version(c, v, m);
+            mark(book, m, w, marks);
         }
     }
     marks[c] = sets::with(marks[c], v);
 }
 
 // The parts of version v of component c.
-fn parts_of<'a>(sets: &'a [u64; 576], numbers: &'a [u8; 8768], c: usize, v: usize) -> [u64; 32]
+fn parts_of(book: &Book, c: usize, v: usize) -> [u64; 32]
     requires c_bound { (c < 32) × (v < 64) }
-    requires good { Good (plain_of sets.now numbers.now) }
-    requires v_value { has_version (plain_of sets.now numbers.now).specs c v ≡ true }
-    ensures { PartsIn (plain_of sets.now numbers.now).systems c v result }
+    requires good { Good (plain book.now) }
+    requires v_value { has_version (plain book.now).specs c v ≡ true }
+    ensures { PartsIn (plain book.now).systems c v result }
 {
     let mut marks: [u64; 32] = [0; 32];
-    mark(sets, numbers, c, v, &mut marks);
+    mark(book, c, v, &mut marks);
     marks
 }
 
 // ---- the next row
 
 // Component e, if it is a member of version w of d, is listed with its version.
-fn member_listed<'a>(
-    sets: &'a [u64; 576],
-    numbers: &'a [u8; 8768],
+fn member_listed(
+    book: &Book,
     d: usize,
     w: usize,
     e: usize,
@@ -77,32 +70,26 @@ fn member_listed<'a>(
     listed: &[u64; 32],
 ) -> bool
     requires d_bound { (d < 32) × (e < 32) }
-    requires good { Good (plain_of sets.now numbers.now) }
-    requires members_value { bit members ≡ is_member (plain_of sets.now numbers.now).systems d w }
-    ensures { result ≡ member_in (plain_of sets.now numbers.now).systems listed.now d w e }
+    requires good { Good (plain book.now) }
+    requires members_value { bit members ≡ is_member (plain book.now).systems d w }
+    ensures { result ≡ member_in (plain book.now).systems listed.now d w e }
 {
     if !sets::member(members, e) {
         return true;
     }
-    let x = book::member_version(sets, numbers, d, w, e);
+    let x = book.member_version(d, w, e);
     sets::member(listed[e], x)
 }
 
 // The members of version w of d are all listed.
-fn members_listed<'a>(
-    sets: &'a [u64; 576],
-    numbers: &'a [u8; 8768],
-    d: usize,
-    w: usize,
-    listed: &[u64; 32],
-) -> bool
+fn members_listed(book: &Book, d: usize, w: usize, listed: &[u64; 32]) -> bool
     requires d_bound { d < 32 }
-    requires good { Good (plain_of sets.now numbers.now) }
-    ensures { result ≡ members_in (plain_of sets.now numbers.now).systems listed.now d w }
+    requires good { Good (plain book.now) }
+    ensures { result ≡ members_in (plain book.now).systems listed.now d w }
 {
-    let members = book::members(sets, numbers, d, w);
+    let members = book.members(d, w);
     for e in 0..32 {
-        if !member_listed(sets, numbers, d, w, e, members, listed) {
+        if !member_listed(book, d, w, e, members, listed) {
             return false;
         }
     }
@@ -110,42 +97,29 @@ fn members_listed<'a>(
 }
 
 // Version w of d is a part that is not listed, and its members are all listed.
-fn is_due<'a>(
-    sets: &'a [u64; 576],
-    numbers: &'a [u8; 8768],
-    d: usize,
-    w: usize,
-    parts: &[u64; 32],
-    listed: &[u64; 32],
-) -> bool
+fn is_due(book: &Book, d: usize, w: usize, parts: &[u64; 32], listed: &[u64; 32]) -> bool
     requires d_bound { (d < 32) × (w < 64) }
-    requires good { Good (plain_of sets.now numbers.now) }
-    ensures { result ≡ due_in (plain_of sets.now numbers.now).systems parts.now listed.now d w }
+    requires good { Good (plain book.now) }
+    ensures { result ≡ due_in (plain book.now).systems parts.now listed.now d w }
 {
     let open = sets::minus(parts[d], listed[d]);
     if !sets::member(open, w) {
         return false;
     }
-    members_listed(sets, numbers, d, w, listed)
+    members_listed(book, d, w, listed)
 }
 
 // The row of the lowest version of d that is due, or 2048.
-fn next_version<'a>(
-    sets: &'a [u64; 576],
-    numbers: &'a [u8; 8768],
-    d: usize,
-    parts: &[u64; 32],
-    listed: &[u64; 32],
-) -> usize
+fn next_version(book: &Book, d: usize, parts: &[u64; 32], listed: &[u64; 32]) -> usize
     requires d_bound { d < 32 }
-    requires good { Good (plain_of sets.now numbers.now) }
-    ensures { result ≡ number_of (first_version (due_in (plain_of sets.now numbers.now).systems parts.now listed.now) d) }
+    requires good { Good (plain book.now) }
+    ensures { result ≡ number_of (first_version (due_in (plain book.now).systems parts.now listed.now) d) }
 {
     if sets::subset(parts[d], listed[d]) {
         return 2048;
     }
     for w in 0..64 {
-        if is_due(sets, numbers, d, w, parts, listed) {
+        if is_due(book, d, w, parts, listed) {
             return d * 64 + w;
         }
     }
@@ -153,17 +127,12 @@ fn next_version<'a>(
 }
 
 // The row of the pair that is due with the lowest component, then the lowest version, or 2048.
-fn next_row<'a>(
-    sets: &'a [u64; 576],
-    numbers: &'a [u8; 8768],
-    parts: &[u64; 32],
-    listed: &[u64; 32],
-) -> usize
-    requires { Good (plain_of sets.now numbers.now) }
-    ensures { result ≡ number_of (first_pair (due_in (plain_of sets.now numbers.now).systems parts.now listed.now)) }
+fn next_row(book: &Book, parts: &[u64; 32], listed: &[u64; 32]) -> usize
+    requires { Good (plain book.now) }
+    ensures { result ≡ number_of (first_pair (due_in (plain book.now).systems parts.now listed.now)) }
 {
     for d in 0..32 {
-        let row = next_version(sets, numbers, d, parts, listed);
+        let row = next_version(book, d, parts, listed);
         if row < 2048 {
             return row;
         }
@@ -172,27 +141,24 @@ fn next_row<'a>(
 }
 
 // The rows of the parts list of version v of c.
-fn rows_of<'a>(sets: &'a [u64; 576], numbers: &'a [u8; 8768], c: usize, v: usize) -> Rows
+fn rows_of(book: &Book, c: usize, v: usize) -> Rows
     requires c_bound { (c < 32) × (v < 64) }
-    requires good { Good (plain_of sets.now numbers.now) }
-    requires v_value { has_version (plain_of sets.now numbers.now).specs c v ≡ true }
-    ensures { AllRows (plain_of sets.now numbers.now) c v result.count result.row }
+    requires good { Good (plain book.now) }
+    requires v_value { has_version (plain book.now).specs c v ≡ true }
+    ensures { AllRows (plain book.now) c v result.count result.row }
 {
-    let parts = parts_of(sets, numbers, c, v);
+    let parts = parts_of(book, c, v);
     let mut listed: [u64; 32] = [0; 32];
     let mut row: [u16; 256] = [0; 256];
     for k in 0..256 {
-        let x = next_row(sets, numbers, &parts, &listed);
+        let x = next_row(book, &parts, &listed);
         if 2048 <= x {
-            return Rows { row: row, count: k };
+            return Rows { row, count: k };
         }
         listed[x / 64] = sets::with(listed[x / 64], x % 64);
         row[k] = x as u16;
     }
-    Rows {
-        row: row,
-        count: 256,
-    }
+    Rows { row, count: 256 }
 }
 
 // What the call gives back: its answer, 0 where the list is in the slice, how many rows it has, and a depth.
@@ -208,18 +174,16 @@ fn write_rows(out: &mut [u16], row: &[u16; 256], count: usize)
     requires { (count ≤ length row.now) × (count ≤ length out.old) × (count ≤ 256) }
     ensures { out.new ≡ filled (take count row.now) out.old }
 {
-    for i in 0..count {
-        out[i] = row[i];
-    }
+    out[..count].copy_from_slice(&row[..count]);
 }
 
 // The number of systems plus one: no chain is longer.
-fn most_depth<'a>(sets: &'a [u64; 576], numbers: &'a [u8; 8768]) -> usize
-    ensures { result ≡ how_many_systems (plain_of sets.now numbers.now).systems + 1 }
+fn most_depth(book: &Book) -> usize
+    ensures { result ≡ how_many_systems (plain book.now).systems + 1 }
 {
     let mut n: usize = 0;
     for s in 0..32 {
-        if book::is_system(sets, numbers, s) {
+        if book.is_system(s) {
             n += 1;
         }
     }
@@ -232,22 +196,16 @@ fn refused(answer: u8) -> PartsList
     ensures { Refused answer result.answer result.rows result.depth }
 {
     PartsList {
-        answer: answer,
+        answer,
         rows: 0,
         depth: 0,
     }
 }
 
 // The parts list of version v of c, on a Book that passes the test for 25.
-pub fn parts_in<'a>(
-    sets: &'a [u64; 576],
-    numbers: &'a [u8; 8768],
-    c: usize,
-    v: usize,
-    out: &mut [u16],
-) -> PartsList
-    requires { test.passes sets.now numbers.now ≡ true }
-    ensures { Listed sets.now numbers.now c v out.old result.answer result.rows result.depth out.new }
+pub fn parts_in(book: &Book, c: usize, v: usize, out: &mut [u16]) -> PartsList
+    requires { test.passes book.now.sets book.now.numbers ≡ true }
+    ensures { Listed book.now.sets book.now.numbers c v out.old result.answer result.rows result.depth out.new }
 {
     if 32 <= c {
         return refused(1);
@@ -255,13 +213,13 @@ pub fn parts_in<'a>(
     if 64 <= v {
         return refused(1);
     }
-    if !book::is_specified(sets, numbers, c) {
+    if !book.is_specified(c) {
         return refused(4);
     }
-    if !book::has_version(sets, numbers, c, v) {
+    if !book.has_version(c, v) {
         return refused(10);
     }
-    let found = rows_of(sets, numbers, c, v);
+    let found = rows_of(book, c, v);
     if out.len() < found.count {
         return refused(22);
     }
@@ -269,7 +227,7 @@ pub fn parts_in<'a>(
     PartsList {
         answer: 0,
         rows: found.count,
-        depth: most_depth(sets, numbers),
+        depth: most_depth(book),
     }
 }
 
@@ -277,8 +235,8 @@ pub fn parts_in<'a>(
 pub fn parts(b: Book, c: usize, v: usize, out: &mut [u16]) -> PartsList
     ensures { Listed b.sets b.numbers c v out.old result.answer result.rows result.depth out.new }
 {
-    if !book_test::passes(&b.sets, &b.numbers) {
+    if !book_test::passes(&b) {
         return refused(25);
     }
-    parts_in(&b.sets, &b.numbers, c, v, out)
+    parts_in(&b, c, v, out)
 }

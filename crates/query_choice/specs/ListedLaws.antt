@@ -15,7 +15,7 @@ use Rattle.seqs.specs.RestLaws.{rest_filled}
 use Rattle.sets.specs.LoopLaws.{count_hit, count_miss, count_start}
 use Rattle.sets.specs.Sets.{bit}
 use Rattle.sets.specs.TestLaws.{≤?_in, ≤?_out, count_le, fails, if-false, if-true, one_if_up, same?}
-use Rattle.sets.specs.Tests.{◌≤?◌, count, one_if}
+use Rattle.sets.specs.Tests.{count, one_if}
 use Rattle.model_laws.specs.RisingLaws.{rising_hit, rising-length, rising_miss, rising_narrow}
 
 -- ---- what a call hands back

@@ -6,42 +6,36 @@ ghost use Rattle.sets.specs.Sets.{bit};
 ghost use Rattle.sets.specs.Tests.{count};
 ghost use Rattle.model.specs.Lists.{rising};
 ghost use Rattle.seqs.specs.Filled.{filled};
-ghost use Rattle.book.specs.Plain.{plain_of};
+ghost use Rattle.book.specs.Plain.{plain};
 ghost use Rattle.book_rules.specs.Test as test;
 ghost use Rattle.model.specs.Queries.{CHOICE};
 ghost use Rattle.query_replies.specs.Replied.{replied_to, numbers_in};
 ghost use Rattle.query_replies.specs.Listed.{Listed, fitted, row_of};
 ghost use Rattle.query_replies.specs.Found.{chosen_at, Chosen, row_in};
 
+use book::Book;
 use query_replies::Pairs;
 
 // The versions of c that are chosen: all where c provides the facilities wanted, else none.
-fn chosen_versions<'a>(sets: &'a [u64; 576], numbers: &'a [u8; 8768], c: usize, wanted: u64) -> u64
+fn chosen_versions(book: &Book, c: usize, wanted: u64) -> u64
     requires { c < 32 }
-    ensures { bit result ≡ chosen_at (plain_of sets.now numbers.now).specs (bit wanted) c }
+    ensures { bit result ≡ chosen_at (plain book.now).specs (bit wanted) c }
 {
-    if sets::subset(wanted, book::provides(sets, numbers, c)) {
-        return book::versions(sets, numbers, c);
+    if sets::subset(wanted, book.provides(c)) {
+        return book.versions(c);
     }
     0
 }
 
 // The versions of each component that are chosen.
-fn chosen_rows<'a>(sets: &'a [u64; 576], numbers: &'a [u8; 8768], wanted: u64) -> [u64; 32]
-    ensures { Chosen (plain_of sets.now numbers.now).specs (bit wanted) 32 result }
+fn chosen_rows(book: &Book, wanted: u64) -> [u64; 32]
+    ensures { Chosen (plain book.now).specs (bit wanted) 32 result }
 {
     let mut out: [u64; 32] = [0; 32];
     for c in 0..32 {
-        out[c] = chosen_versions(sets, numbers, c, wanted);
+        out[c] = chosen_versions(book, c, wanted);
     }
     out
-}
-
-// How many versions a set holds.
-fn count_versions(versions: u64) -> usize
-    ensures { result ≡ count 64 (bit versions) }
-{
-    sets::count(versions) as usize
 }
 
 // How many pairs are chosen.
@@ -50,7 +44,7 @@ fn count_rows(chosen: &[u64; 32]) -> usize
 {
     let mut found = 0;
     for c in 0..32 {
-        found += count_versions(chosen[c]);
+        found += sets::count(chosen[c]) as usize;
     }
     found
 }
@@ -84,7 +78,7 @@ fn write_versions(c: usize, versions: u64, out: &mut [u16]) -> usize
 }
 
 // Writes the pairs that are chosen.
-fn write_rows<'a>(chosen: &'a [u64; 32], out: &mut [u16])
+fn write_rows(chosen: &[u64; 32], out: &mut [u16])
     requires { count 2048 (row_in chosen.now) ≤ length out.old }
     ensures { out.new ≡ filled (rising 2048 (row_in chosen.now)) out.old }
 {
@@ -95,17 +89,12 @@ fn write_rows<'a>(chosen: &'a [u64; 32], out: &mut [u16])
 }
 
 // CHOICE, of a set of facilities.
-pub fn choice_in<'a>(
-    sets: &'a [u64; 576],
-    numbers: &'a [u8; 8768],
-    wanted: u64,
-    out: &mut [u16],
-) -> Pairs
-    requires { test.passes sets.now numbers.now ≡ true }
+pub fn choice_in(book: &Book, wanted: u64, out: &mut [u16]) -> Pairs
+    requires { test.passes book.now.sets book.now.numbers ≡ true }
     ensures { Listed out.old result.answer result.rows out.new
-        (fitted (length out.old) (replied_to sets.now numbers.now (CHOICE (numbers_in wanted)))) }
+        (fitted (length out.old) (replied_to book.now.sets book.now.numbers (CHOICE (numbers_in wanted)))) }
 {
-    let chosen = chosen_rows(sets, numbers, wanted);
+    let chosen = chosen_rows(book, wanted);
     let rows = count_rows(&chosen);
     if out.len() < rows {
         return Pairs {

@@ -4,36 +4,37 @@
 ghost use Rattle.std.specs.Prelude.{◌≡◌, true, List, ℕ, ◌<◌, get_or};
 ghost use Rattle.sets.specs.Sets.{bit};
 ghost use Rattle.book_cycles.specs.Closure.{Rows};
-ghost use Rattle.book.specs.Plain.{plain_of};
+ghost use Rattle.book.specs.Plain.{plain};
 ghost use Rattle.book_rules.specs.Test as test;
 ghost use Rattle.model.specs.Queries.{UNDEFINED, UNUSED, WHEREUSED};
 ghost use Rattle.model.specs.Queries as model;
 ghost use Rattle.query_replies.specs.Replied.{Replied, replied_to, numbers_in, components_in};
 ghost use Rattle.query_replies.specs.Found.{undefined_at, used, unused_at, uses_at};
 
+use book::Book;
 use query_replies::Components;
 
 // Component c is specified and not defined.
-fn is_undefined<'a>(sets: &'a [u64; 576], numbers: &'a [u8; 8768], c: usize) -> bool
+fn is_undefined(book: &Book, c: usize) -> bool
     requires { c < 32 }
-    ensures { result ≡ undefined_at (plain_of sets.now numbers.now) c }
+    ensures { result ≡ undefined_at (plain book.now) c }
 {
-    if !book::is_specified(sets, numbers, c) {
+    if !book.is_specified(c) {
         return false;
     }
-    if book::is_module(sets, numbers, c) {
+    if book.is_module(c) {
         return false;
     }
-    !book::is_system(sets, numbers, c)
+    !book.is_system(c)
 }
 
 // The components that are specified and not defined.
-fn undefined_set<'a>(sets: &'a [u64; 576], numbers: &'a [u8; 8768]) -> u64
-    ensures { numbers_in result ≡ model.undefined (plain_of sets.now numbers.now) }
+fn undefined_set(book: &Book) -> u64
+    ensures { numbers_in result ≡ model.undefined (plain book.now) }
 {
     let mut found: u64 = 0;
     for c in 0..32 {
-        if is_undefined(sets, numbers, c) {
+        if is_undefined(book, c) {
             found = sets::with(found, c);
         }
     }
@@ -41,36 +42,36 @@ fn undefined_set<'a>(sets: &'a [u64; 576], numbers: &'a [u8; 8768]) -> u64
 }
 
 // The components that are usable in some system.
-fn used_set<'a>(sets: &'a [u64; 576], numbers: &'a [u8; 8768]) -> u64
-    ensures { bit result ≡ used (plain_of sets.now numbers.now).systems }
+fn used_set(book: &Book) -> u64
+    ensures { bit result ≡ used (plain book.now).systems }
 {
     let mut found: u64 = 0;
     for s in 0..32 {
-        found = sets::union(found, book::usable(sets, numbers, s));
+        found = sets::union(found, book.usable(s));
     }
     found
 }
 
 // Component c is a module that is usable in no system.
-fn is_unused<'a>(sets: &'a [u64; 576], numbers: &'a [u8; 8768], c: usize, somewhere: u64) -> bool
+fn is_unused(book: &Book, c: usize, somewhere: u64) -> bool
     requires c_bound { c < 32 }
-    requires somewhere_value { bit somewhere ≡ used (plain_of sets.now numbers.now).systems }
-    ensures { result ≡ unused_at (plain_of sets.now numbers.now) c }
+    requires somewhere_value { bit somewhere ≡ used (plain book.now).systems }
+    ensures { result ≡ unused_at (plain book.now) c }
 {
-    if !book::is_module(sets, numbers, c) {
+    if !book.is_module(c) {
         return false;
     }
     !sets::member(somewhere, c)
 }
 
 // The modules that are usable in no system.
-fn unused_set<'a>(sets: &'a [u64; 576], numbers: &'a [u8; 8768]) -> u64
-    ensures { numbers_in result ≡ model.unused (plain_of sets.now numbers.now) }
+fn unused_set(book: &Book) -> u64
+    ensures { numbers_in result ≡ model.unused (plain book.now) }
 {
-    let somewhere = used_set(sets, numbers);
+    let somewhere = used_set(book);
     let mut found: u64 = 0;
     for c in 0..32 {
-        if is_unused(sets, numbers, c, somewhere) {
+        if is_unused(book, c, somewhere) {
             found = sets::with(found, c);
         }
     }
@@ -78,10 +79,10 @@ fn unused_set<'a>(sets: &'a [u64; 576], numbers: &'a [u8; 8768]) -> u64
 }
 
 // System s reaches another component c; row is what s reaches.
-fn is_user<'a>(sets: &'a [u64; 576], numbers: &'a [u8; 8768], c: usize, s: usize, row: u64) -> bool
+fn is_user(book: &Book, c: usize, s: usize, row: u64) -> bool
     requires { (c < 32) × (s < 32) }
-    ensures { (t : List ℕ) → Rows (plain_of sets.now numbers.now).systems 32 t → row ≡ get_or t s 0
-        → result ≡ uses_at (plain_of sets.now numbers.now).systems c s }
+    ensures { (t : List ℕ) → Rows (plain book.now).systems 32 t → row ≡ get_or t s 0
+        → result ≡ uses_at (plain book.now).systems c s }
 {
     if s == c {
         return false;
@@ -90,14 +91,14 @@ fn is_user<'a>(sets: &'a [u64; 576], numbers: &'a [u8; 8768], c: usize, s: usize
 }
 
 // The systems in which c is usable, directly or through usable systems.
-fn user_set<'a>(sets: &'a [u64; 576], numbers: &'a [u8; 8768], c: usize) -> u64
+fn user_set(book: &Book, c: usize) -> u64
     requires { c < 32 }
-    ensures { numbers_in result ≡ model.where_used (plain_of sets.now numbers.now) c }
+    ensures { numbers_in result ≡ model.where_used (plain book.now) c }
 {
-    let reach = book_cycles::closure(sets, numbers);
+    let reach = book_cycles::closure(book);
     let mut found: u64 = 0;
     for s in 0..32 {
-        if is_user(sets, numbers, c, s, reach[s]) {
+        if is_user(book, c, s, reach[s]) {
             found = sets::with(found, s);
         }
     }
@@ -105,38 +106,38 @@ fn user_set<'a>(sets: &'a [u64; 576], numbers: &'a [u8; 8768], c: usize) -> u64
 }
 
 // UNDEFINED.
-pub fn undefined_in<'a>(sets: &'a [u64; 576], numbers: &'a [u8; 8768]) -> Components
-    requires { test.passes sets.now numbers.now ≡ true }
-    ensures { Replied components_in result.answer result.set (replied_to sets.now numbers.now UNDEFINED) }
+pub fn undefined_in(book: &Book) -> Components
+    requires { test.passes book.now.sets book.now.numbers ≡ true }
+    ensures { Replied components_in result.answer result.set (replied_to book.now.sets book.now.numbers UNDEFINED) }
 {
     Components {
         answer: 0,
-        set: undefined_set(sets, numbers),
+        set: undefined_set(book),
     }
 }
 
 // UNUSED.
-pub fn unused_in<'a>(sets: &'a [u64; 576], numbers: &'a [u8; 8768]) -> Components
-    requires { test.passes sets.now numbers.now ≡ true }
-    ensures { Replied components_in result.answer result.set (replied_to sets.now numbers.now UNUSED) }
+pub fn unused_in(book: &Book) -> Components
+    requires { test.passes book.now.sets book.now.numbers ≡ true }
+    ensures { Replied components_in result.answer result.set (replied_to book.now.sets book.now.numbers UNUSED) }
 {
     Components {
         answer: 0,
-        set: unused_set(sets, numbers),
+        set: unused_set(book),
     }
 }
 
 // WHEREUSED.
-pub fn whereused_in<'a>(sets: &'a [u64; 576], numbers: &'a [u8; 8768], c: usize) -> Components
-    requires { test.passes sets.now numbers.now ≡ true }
-    ensures { Replied components_in result.answer result.set (replied_to sets.now numbers.now (WHEREUSED c)) }
+pub fn whereused_in(book: &Book, c: usize) -> Components
+    requires { test.passes book.now.sets book.now.numbers ≡ true }
+    ensures { Replied components_in result.answer result.set (replied_to book.now.sets book.now.numbers (WHEREUSED c)) }
 {
-    let answer = query_replies::asked_of_component(sets, numbers, c);
+    let answer = query_replies::asked_of_component(book, c);
     if answer != 0 {
         return Components { answer, set: 0 };
     }
     Components {
         answer: 0,
-        set: user_set(sets, numbers, c),
+        set: user_set(book, c),
     }
 }

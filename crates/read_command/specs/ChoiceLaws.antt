@@ -9,9 +9,10 @@ use Rattle.model.specs.Book.{facilities}
 use Rattle.model.specs.Lists.{every}
 use Rattle.model.specs.Maps.{and_then, is_some}
 use Rattle.names.specs.EnterLaws.{found_at, found_nothing, table-length}
-use Rattle.names.specs.Stored.{answered, table_of}
-use Rattle.names.specs.declared.Found.{Found}
-use Rattle.names.specs.declared.Found.TheVariants.{At, Nothing}
+use Rattle.names.specs.Stored.{table_of}
+use Rattle.sets.specs.Answered.{answered}
+use Rattle.std.specs.Prelude.{Option as Found}
+use Rattle.std.specs.Prelude.{None, Some}
 use Rattle.sets.specs.Sets.{Set, bit, with}
 use Rattle.sets.specs.TestLaws.{and-false, and_l, and_swap, and-true, clash}
 use Rattle.sets.specs.Tests.{◌&◌}
@@ -31,10 +32,10 @@ use Rattle.read_tokens.specs.Steps.{Each}
 use Rattle.read_tokens.specs.TokenLaws.{answer_yes}
 use Rattle.read_command.specs.declared.Known.{Known}
 
-pub lookup_is : (t : Table) (text v : Text) (a e : ℕ) (f : Found) → v ≡ part text a e → answered f ≡ place t v → answered f ≡ place t (part text a e)
+pub lookup_is : (t : Table) (text v : Text) (a e : ℕ) (f : Found ℕ) → v ≡ part text a e → answered f ≡ place t v → answered f ≡ place t (part text a e)
 lookup_is t text v a e f p q = q ∙ ap (place t) p
 
-module _ (bytes : List ℕ) (t : Text) (at a e : ℕ) (there : Bool) (f : Found) (set : ℕ) (known : Bool) (r : Answers name (PartOf t a e) t at there e)
+module _ (bytes : List ℕ) (t : Text) (at a e : ℕ) (there : Bool) (f : Found ℕ) (set : ℕ) (known : Bool) (r : Answers name (PartOf t a e) t at there e)
     (n : notᵇ there ≡ false) (q : answered f ≡ place (table_of facilities bytes) (part t a e)) where
   step : (R : Name → Type 0) → R (part t a e) → Answers name R t at true e
   step R x =
@@ -47,19 +48,19 @@ module _ (bytes : List ℕ) (t : Text) (at a e : ℕ) (there : Bool) (f : Found)
         inside = g.inside;
       })
 
-  pub known_small : (k : ℕ) → f ≡ At k → k < 64
+  pub known_small : (k : ℕ) → f ≡ Some k → k < 64
   known_small k h =
       let p = (place_name (table_of facilities bytes) (part t a e) k (found_at f k _ q h)).1 in let l = table-length facilities bytes in
       omega arith
 
-  pub known-not : f ≡ Nothing → Answers name (KnownStep (table_of facilities bytes) (bit set, known) (bit set, false)) t at true e
+  pub known-not : f ≡ None → Answers name (KnownStep (table_of facilities bytes) (bit set, known) (bit set, false)) t at true e
   unfolding is_some
   known-not h = step _ (record {
     known = sym (ap (λ (o : Option ℕ). known & is_some o) (found_nothing f _ q h) ∙ and_swap known false ∙ and-false _ _ refl);
     set = λ y. clash y refl;
   })
 
-  pub known_at : (k set' : ℕ) → f ≡ At k → bit set' ≡ with (bit set) k
+  pub known_at : (k set' : ℕ) → f ≡ Some k → bit set' ≡ with (bit set) k
       → Answers name (KnownStep (table_of facilities bytes) (bit set, known) (bit set', known)) t at true e
   unfolding is_some
   known_at k set' h w = step _ (record {

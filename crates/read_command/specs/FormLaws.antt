@@ -7,9 +7,9 @@ use Rattle.std.proofs.Math.Nat.{le_refl}
 use Rattle.std.proofs.Math.ListN.{get_or-eq_default, length}
 use Rattle.model.specs.Lists.{every}
 use Rattle.model.specs.Maps.{is_some}
-use Rattle.names.specs.Stored.{answered}
-use Rattle.names.specs.declared.Found.{Found}
-use Rattle.names.specs.declared.Found.TheVariants as found
+use Rattle.sets.specs.Answered.{answered}
+use Rattle.std.specs.Prelude.{Option as Found}
+use Rattle.std.specs.Prelude as found
 use Rattle.read_tokens.specs.Readers.{Answers}
 use Rattle.sets.specs.TestLaws.{and_l, and_r, clash, fails, if-false}
 use Rattle.sets.specs.Tests.{◌&◌, ◌=?◌, ◌or◌, if?◌then◌else◌}
@@ -120,12 +120,12 @@ form_long w l = by (place keywords w) refl
         let s = place_name keywords w j q in let m = keywords_counted in let o = ap length s.0 in
         let i = keyword_length j (omega arith) in absurd (omega arith)
 
-module _ (w : Text) (f : Found) (q : answered f ≡ place keywords w) where
-  pub form_none : f ≡ found.Nothing → Nothing ≡ word_form (place keywords w)
+module _ (w : Text) (f : Found ℕ) (q : answered f ≡ place keywords w) where
+  pub form_none : f ≡ found.None → Nothing ≡ word_form (place keywords w)
   unfolding word_form answered
   form_none h = sym (ap word_form (sym q ∙ ap answered h))
 
-  pub form_found : (j : ℕ) (r : Form) → f ≡ found.At j → r ≡ form_of j → r ≡ word_form (place keywords w)
+  pub form_found : (j : ℕ) (r : Form) → f ≡ found.Some j → r ≡ form_of j → r ≡ word_form (place keywords w)
   unfolding word_form answered
   form_found j r h d = d ∙ sym (ap word_form (sym q ∙ ap answered h))
 

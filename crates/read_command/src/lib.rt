@@ -3,7 +3,8 @@
 
 ghost use Rattle.std.specs.Prelude.{◌≡◌, true, ◌<◌, ◌≤◌, length};
 ghost use Rattle.text.specs.Bytes.{keywords, short};
-ghost use Rattle.names.specs.Stored.{answered, table_of};
+ghost use Rattle.names.specs.Stored.{table_of};
+ghost use Rattle.sets.specs.Answered.{answered};
 ghost use Rattle.text.specs.Tables.{place};
 ghost use Rattle.read_command.specs.Choices.{ChoiceAsked, KnownStep};
 ghost use Rattle.read_command.specs.Forms.{Begins, form_of, word_form};
@@ -147,7 +148,7 @@ fn word_form(word: &[u8]) -> Form
     if 32 < word.len() {
         return Form::Nothing;
     }
-    let names::Found::At(k) = words::keyword_of(word) else {
+    let Some(k) = words::keyword_of(word) else {
         return Form::Nothing;
     };
     form_of(k)
@@ -229,7 +230,7 @@ pub fn read_pair(text: &[u8], at: usize) -> Parts
         return wrong;
     }
     let a = c.end;
-    let k = read_tokens::want_mark(text, a, 46);
+    let k = read_tokens::want_mark(text, a, b'.');
     if !k.there {
         return wrong;
     }
@@ -248,7 +249,7 @@ pub fn read_pair(text: &[u8], at: usize) -> Parts
 }
 
 // The place of the part of the text from a to e.
-fn lookup_part(facs: &[u8], text: &[u8], a: usize, e: usize) -> names::Found
+fn lookup_part(facs: &[u8], text: &[u8], a: usize, e: usize) -> Option<usize>
     requires kept { Kept facilities facs.now }
     requires span { Span text.now a e }
     requires e_value { short (part text.now a e) ≡ true }
@@ -274,7 +275,7 @@ fn take_known(facs: &[u8], text: &[u8], at: usize, set: u64, known: bool) -> Kno
     }
     let a = w.start;
     let e = w.end;
-    let names::Found::At(k) = lookup_part(facs, text, a, e) else {
+    let Some(k) = lookup_part(facs, text, a, e) else {
         return Known {
             there: true,
             end: e,
@@ -305,7 +306,7 @@ fn take_all_known(facs: &[u8], text: &[u8], at: usize) -> Known
             return n;
         }
         let e = n.end;
-        let m = read_tokens::want_mark(text, e, 44);
+        let m = read_tokens::want_mark(text, e, b',');
         if !m.there {
             return n;
         }

@@ -84,7 +84,7 @@ fn take_mod_versions(
             return n;
         }
         let e = n.end;
-        let m = read_tokens::want_mark(text, e, 59);
+        let m = read_tokens::want_mark(text, e, b';');
         if !m.there {
             return n;
         }
@@ -152,7 +152,7 @@ pub fn read_mod(
         return no_mod_request();
     }
     let a = c.end;
-    let k = read_tokens::want_mark(text, a, 59);
+    let k = read_tokens::want_mark(text, a, b';');
     if !k.there {
         return no_mod_request();
     }
@@ -204,7 +204,7 @@ pub fn take_pair(comps: &mut [u8], vers: &mut [u8], text: &[u8], at: usize) -> P
         return wrong;
     }
     let a = c.end;
-    let k = read_tokens::want_mark(text, a, 46);
+    let k = read_tokens::want_mark(text, a, b'.');
     if !k.there {
         return wrong;
     }

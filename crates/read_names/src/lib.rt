@@ -22,7 +22,7 @@ fn enter_part(names: &mut [u8], places: usize, text: &[u8], a: usize, e: usize) 
     ensures kept_2 { Kept places names.new }
     ensures enters { Enters places (table_of places names.old) (table_of places names.new) result.number result.room (part text.now a e) }
 {
-    let names::Found::At(k) = names::enter(names, places, words::part(text, a, e)) else {
+    let Some(k) = names::enter(names, places, words::part(text, a, e)) else {
         return Entry {
             number: 0,
             room: false,
@@ -129,7 +129,7 @@ fn take_facilities(facs: &mut [u8], text: &[u8], at: usize, set: u64, room: bool
             return n;
         }
         let e = n.end;
-        let m = read_tokens::want_mark(text, e, 44);
+        let m = read_tokens::want_mark(text, e, b',');
         if !m.there {
             return n;
         }
@@ -166,7 +166,7 @@ pub fn take_provided(facs: &mut [u8], text: &[u8], at: usize) -> Facilities
     ensures kept_2 { Kept facilities facs.new }
     ensures answers { Answers (names_up_to semicolon) (Each FacilityStep (table_of facilities facs.old, bit 0, true) (table_of facilities facs.new, bit result.set, result.room)) text.now at result.there result.end }
 {
-    let k = read_tokens::want_mark(text, at, 59);
+    let k = read_tokens::want_mark(text, at, b';');
     if k.there {
         return Facilities {
             there: true,
@@ -180,7 +180,7 @@ pub fn take_provided(facs: &mut [u8], text: &[u8], at: usize) -> Facilities
         return n;
     }
     let e = n.end;
-    let m = read_tokens::want_mark(text, e, 59);
+    let m = read_tokens::want_mark(text, e, b';');
     Facilities {
         there: m.there,
         end: m.end,

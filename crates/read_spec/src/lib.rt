@@ -91,7 +91,7 @@ fn take_spec_versions(
             return n;
         }
         let e = n.end;
-        let m = read_tokens::want_mark(text, e, 59);
+        let m = read_tokens::want_mark(text, e, b';');
         if !m.there {
             return n;
         }

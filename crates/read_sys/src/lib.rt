@@ -45,7 +45,7 @@ fn take_member(comps: &mut [u8], vers: &mut [u8], text: &[u8], at: usize, g: Mem
         return wrong;
     }
     let a = c.end;
-    let d = read_tokens::pass_mark(text, a, 46);
+    let d = read_tokens::pass_mark(text, a, b'.');
     let b = d.end;
     if !d.there {
         return with_named_member(g, c, command_lists::LEFT_OUT, true, b);
@@ -80,7 +80,7 @@ fn take_members(
             return n;
         }
         let e = n.end;
-        let m = read_tokens::want_mark(text, e, 44);
+        let m = read_tokens::want_mark(text, e, b',');
         if !m.there {
             return n;
         }
@@ -142,7 +142,7 @@ pub fn read_sysvar(comps: &mut [u8], vers: &mut [u8], text: &[u8], at: usize) ->
         return no_sysvar_request();
     }
     let a = p.end;
-    let k = read_tokens::want_mark(text, a, 61);
+    let k = read_tokens::want_mark(text, a, b'=');
     if !k.there {
         return no_sysvar_request();
     }
@@ -196,7 +196,7 @@ fn take_usables(comps: &mut [u8], text: &[u8], at: usize, start: UsableNames) ->
             return n;
         }
         let e = n.end;
-        let m = read_tokens::want_mark(text, e, 44);
+        let m = read_tokens::want_mark(text, e, b',');
         if !m.there {
             return n;
         }
@@ -242,7 +242,7 @@ fn take_sys_version(
         return wrong;
     }
     let a = v.end;
-    let k = read_tokens::want_mark(text, a, 61);
+    let k = read_tokens::want_mark(text, a, b'=');
     if !k.there {
         return wrong;
     }
@@ -283,7 +283,7 @@ fn take_sys_versions(
             return n;
         }
         let e = n.end;
-        let m = read_tokens::want_mark(text, e, 59);
+        let m = read_tokens::want_mark(text, e, b';');
         if !m.there {
             return n;
         }
@@ -367,7 +367,7 @@ pub fn read_sys(comps: &mut [u8], vers: &mut [u8], text: &[u8], at: usize) -> Sy
         return no_sys_request();
     }
     let e = u.end;
-    let q = read_tokens::want_mark(text, e, 59);
+    let q = read_tokens::want_mark(text, e, b';');
     if !q.there {
         return no_sys_request();
     }

@@ -7,9 +7,10 @@ use Rattle.std.proofs.lemmas.Bool.{not-false, not-true}
 use Rattle.model.specs.Lists.{every, non_empty}
 use Rattle.model.specs.Maps.{is_some, or_else}
 use Rattle.names.specs.EnterLaws.{with_held}
-use Rattle.names.specs.Stored.{answered, place_with, table_of, table_with}
-use Rattle.names.specs.declared.Found.{Found}
-use Rattle.names.specs.declared.Found.TheVariants.{At, Nothing}
+use Rattle.names.specs.Stored.{place_with, table_of, table_with}
+use Rattle.sets.specs.Answered.{answered}
+use Rattle.std.specs.Prelude.{Option as Found}
+use Rattle.std.specs.Prelude.{None, Some}
 use Rattle.model.specs.Book.{facilities}
 use Rattle.sets.specs.Sets.{Set, with}
 use Rattle.sets.specs.Tests.{◌&◌, ◌≤?◌}
@@ -29,14 +30,14 @@ use Rattle.read_tokens.specs.Steps.{FacilityStep}
 
 -- ---- the ways out of enter_part
 
-module _ (n : ℕ) (t t' : Table) (w v : Name) (f : Found) (p : v ≡ w) (a : answered f ≡ place_with n t v) (q : t' ≡ table_with n t v) where
-  pub enters_at : (k : ℕ) → f ≡ At k → Enters n t t' k true w
+module _ (n : ℕ) (t t' : Table) (w v : Name) (f : Found ℕ) (p : v ≡ w) (a : answered f ≡ place_with n t v) (q : t' ≡ table_with n t v) where
+  pub enters_at : (k : ℕ) → f ≡ Some k → Enters n t t' k true w
   unfolding answered is_some or_else
   enters_at k e =
       let z : place_with n t w ≡ some k = ap (place_with n t) (sym p) ∙ sym a ∙ ap answered e in
       record { table = q ∙ ap (table_with n t) p; number = sym (ap (λ (o : Option ℕ). or_else o 0) z); placed = sym (ap is_some z) }
 
-  pub enters_not : f ≡ Nothing → Enters n t t' 0 false w
+  pub enters_not : f ≡ None → Enters n t t' 0 false w
   unfolding answered is_some or_else
   enters_not e =
       let z : place_with n t w ≡ none = ap (place_with n t) (sym p) ∙ sym a ∙ ap answered e in

@@ -3,4 +3,3 @@ pub mod SameLaws
 pub mod RestLaws
 pub mod FilledLaws
 pub mod WrittenLaws
-pub mod ClearLaws

@@ -9,28 +9,14 @@ ghost use Rattle.text.specs.Bytes as text;
 pub fn same(a: &[u8], b: &[u8]) -> bool
     ensures { result ≡ text.same a.now b.now }
 {
-    if a.len() != b.len() {
-        return false;
-    }
-    let mut i = 0;
-    while i < a.len() {
-        if a[i] != b[i] {
-            return false;
-        }
-        i += 1;
-    }
-    true
+    a == b
 }
 
 // Zeros in the whole slice.
 pub fn clear(out: &mut [u8])
     ensures { out.new ≡ replicate (length out.old) 0 }
 {
-    let mut i = 0;
-    while i < out.len() {
-        out[i] = 0;
-        i += 1;
-    }
+    out.fill(0);
 }
 
 // A word at the start of the slice, which keeps the bytes behind it.

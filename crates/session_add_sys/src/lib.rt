@@ -1,83 +1,65 @@
-// The commands sys and sysvar of a session's text, each from behind its first word: its names are entered into copies of the tables as they
+// The commands sys and sysvar of a session's text, each from behind its first word: its names are entered into a copy of the tables as they
 // are read, and Book and tables are changed only if it is accepted. What an answer means is session_state/specs/Carried.antt.
 #![tactic(auto)]
 
-ghost use Rattle.std.specs.Prelude.{◌≤◌, length};
+ghost use Rattle.std.specs.Prelude.{◌≡◌, ◌≤◌, length};
 ghost use Rattle.read_tokens.specs.Readers.{Answers};
 ghost use Rattle.session_state.specs.Carried.{Decides, Undecided};
-ghost use Rattle.session_state.specs.State.{Ready, state_of};
+ghost use Rattle.session_state.specs.State.{IsReady, plain_state};
 ghost use Rattle.text.specs.Language.{add_sys, add_sysvar};
 
-use session_state::Decision;
+use session_state::{Decision, State};
 
 // "sys", from behind that word.
-pub fn add_sys(
-    sets: &mut [u64; 576],
-    numbers: &mut [u8; 8768],
-    comps: &mut [u8; 1056],
-    vers: &mut [u8; 2112],
-    facs: &[u8; 2112],
-    impls: &[u8; 8448],
-    text: &[u8],
-    at: usize,
-) -> Decision
-    requires ready { Ready sets.old numbers.old comps.old vers.old facs.now impls.now }
+pub fn add_sys(state: &mut State, text: &[u8], at: usize) -> Decision
+    requires ready { IsReady state.old }
     requires at_in_bounds { at ≤ length text.now }
-    ensures ready_2 { Ready sets.new numbers.new comps.new vers.new facs.now impls.now }
-    ensures answers { Answers add_sys (Decides (state_of sets.old numbers.old comps.old vers.old facs.now impls.now) (state_of sets.new numbers.new comps.new vers.new facs.now impls.now) result.answer) text.now at result.there result.end }
-    ensures undecided { Undecided at (state_of sets.old numbers.old comps.old vers.old facs.now impls.now) (state_of sets.new numbers.new comps.new vers.new facs.now impls.now) result }
+    ensures ready_2 { IsReady state.new }
+    ensures answers { Answers add_sys (Decides (plain_state state.old) (plain_state state.new) result.answer) text.now at result.there result.end }
+    ensures undecided { Undecided at (plain_state state.old) (plain_state state.new) result }
+    ensures facs_kept { state.new.names.facs ≡ state.old.names.facs }
+    ensures impls_kept { state.new.names.impls ≡ state.old.names.impls }
 {
-    let mut c = *comps;
-    let mut v = *vers;
-    let r = read_sys::read_sys(&mut c, &mut v, text, at);
+    let mut names = state.names;
+    let r = read_sys::read_sys(&mut names.comps, &mut names.vers, text, at);
     let end = r.end;
     if !(r.there & r.room) {
         return session_add::unasked(r.there, at, end);
     }
-    let answer = session_add::answer_sys(sets, numbers, r);
+    let answer = session_add::answer_sys(&mut state.book, r);
     if answer == 0 {
-        *comps = c;
-        *vers = v;
+        state.names = names;
     }
     Decision {
         there: true,
-        end: end,
-        answer: answer,
+        end,
+        answer,
     }
 }
 
 // "sysvar", from behind that word.
-pub fn add_sysvar(
-    sets: &mut [u64; 576],
-    numbers: &mut [u8; 8768],
-    comps: &mut [u8; 1056],
-    vers: &mut [u8; 2112],
-    facs: &[u8; 2112],
-    impls: &[u8; 8448],
-    text: &[u8],
-    at: usize,
-) -> Decision
-    requires ready { Ready sets.old numbers.old comps.old vers.old facs.now impls.now }
+pub fn add_sysvar(state: &mut State, text: &[u8], at: usize) -> Decision
+    requires ready { IsReady state.old }
     requires at_in_bounds { at ≤ length text.now }
-    ensures ready_2 { Ready sets.new numbers.new comps.new vers.new facs.now impls.now }
-    ensures answers { Answers add_sysvar (Decides (state_of sets.old numbers.old comps.old vers.old facs.now impls.now) (state_of sets.new numbers.new comps.new vers.new facs.now impls.now) result.answer) text.now at result.there result.end }
-    ensures undecided { Undecided at (state_of sets.old numbers.old comps.old vers.old facs.now impls.now) (state_of sets.new numbers.new comps.new vers.new facs.now impls.now) result }
+    ensures ready_2 { IsReady state.new }
+    ensures answers { Answers add_sysvar (Decides (plain_state state.old) (plain_state state.new) result.answer) text.now at result.there result.end }
+    ensures undecided { Undecided at (plain_state state.old) (plain_state state.new) result }
+    ensures facs_kept { state.new.names.facs ≡ state.old.names.facs }
+    ensures impls_kept { state.new.names.impls ≡ state.old.names.impls }
 {
-    let mut c = *comps;
-    let mut v = *vers;
-    let r = read_sys::read_sysvar(&mut c, &mut v, text, at);
+    let mut names = state.names;
+    let r = read_sys::read_sysvar(&mut names.comps, &mut names.vers, text, at);
     let end = r.end;
     if !(r.there & r.room) {
         return session_add::unasked(r.there, at, end);
     }
-    let answer = session_add::answer_sysvar(sets, numbers, r);
+    let answer = session_add::answer_sysvar(&mut state.book, r);
     if answer == 0 {
-        *comps = c;
-        *vers = v;
+        state.names = names;
     }
     Decision {
         there: true,
-        end: end,
-        answer: answer,
+        end,
+        answer,
     }
 }

@@ -17,96 +17,77 @@ ghost use Rattle.text.specs.Tables as tables;
 ghost use Rattle.names.specs.Stored.{table_of};
 ghost use Rattle.write_bytes.specs.Room.{Puts};
 ghost use Rattle.session_state.specs.Carried.{Carried, Unread};
-ghost use Rattle.session_state.specs.State.{Ready, state_of};
+ghost use Rattle.session_state.specs.State.{IsReady, plain_state};
 
 use read_command::OfBook;
-use session_state::Shown;
+use session_state::{Shown, State};
 use write_bytes::Room;
 
 // ---- of facilities
 
 // The pairs whose component provides the facilities wanted: the slice has a place for every pair.
-fn put_choice<'a>(
-    out: &mut [u8],
-    room: Room,
-    i: usize,
-    sets: &'a [u64; 576],
-    numbers: &'a [u8; 8768],
-    comps: &'a [u8; 1056],
-    vers: &'a [u8; 2112],
-    facs: &'a [u8; 2112],
-    impls: &'a [u8; 8448],
-    wanted: u64,
-) -> Room
-    requires { Ready sets.now numbers.now comps.now vers.now facs.now impls.now }
-    ensures { (fs : List ℕ) → bit wanted ≡ set_of fs → Puts (lines i (asked (state_of sets.now numbers.now comps.now vers.now facs.now impls.now) (model.CHOICE fs))) room result out.old out.new }
+fn put_choice(out: &mut [u8], room: Room, i: usize, state: &State, wanted: u64) -> Room
+    requires { IsReady state.now }
+    ensures { (fs : List ℕ) → bit wanted ≡ set_of fs → Puts (lines i (asked (plain_state state.now) (model.CHOICE fs))) room result out.old out.new }
 {
     let mut rows: [u16; 2048] = [0; 2048];
-    let found = query_choice::choice_in(sets, numbers, wanted, &mut rows);
-    session_rows::put_listed(out, room, i, comps, vers, found.answer, &rows, found.rows)
+    let found = query_choice::choice_in(&state.book, wanted, &mut rows);
+    session_rows::put_listed(
+        out,
+        room,
+        i,
+        &state.names.comps,
+        &state.names.vers,
+        found.answer,
+        &rows,
+        found.rows,
+    )
 }
 
 // "and CHOICE of it finds nothing", where a facility has no number.
-fn put_known_choice<'a>(
+fn put_known_choice(
     out: &mut [u8],
     room: Room,
     i: usize,
-    sets: &'a [u64; 576],
-    numbers: &'a [u8; 8768],
-    comps: &'a [u8; 1056],
-    vers: &'a [u8; 2112],
-    facs: &'a [u8; 2112],
-    impls: &'a [u8; 8448],
+    state: &State,
     known: bool,
     wanted: u64,
 ) -> Room
-    requires { Ready sets.now numbers.now comps.now vers.now facs.now impls.now }
-    ensures { (fs : List Name) → known ≡ every (λ f. is_some (place (table_of facilities facs.now) f)) fs
-        → (known ≡ true → bit wanted ≡ set_of (tables.numbers (table_of facilities facs.now) fs))
-        → Carried i (state_of sets.now numbers.now comps.now vers.now facs.now impls.now)
-        (state_of sets.now numbers.now comps.now vers.now facs.now impls.now)
-        room result out.old out.new (CHOICE fs) }
+    requires { IsReady state.now }
+    ensures { (fs : List Name) → known ≡ every (λ f. is_some (place (table_of facilities state.now.names.facs) f)) fs
+        → (known ≡ true → bit wanted ≡ set_of (tables.numbers (table_of facilities state.now.names.facs) fs))
+        → Carried i (plain_state state.now) (plain_state state.now) room result out.old out.new (CHOICE fs) }
 {
     if !known {
         return write_rows::put_answer_row(out, room, i, 0);
     }
-    put_choice(
-        out, room, i, sets, numbers, comps, vers, facs, impls, wanted,
-    )
+    put_choice(out, room, i, state, wanted)
 }
 
 // "choice", from behind its first word.
-pub fn show_choice<'a>(
+pub fn show_choice(
     out: &mut [u8],
     room: Room,
     i: usize,
-    sets: &'a [u64; 576],
-    numbers: &'a [u8; 8768],
-    comps: &'a [u8; 1056],
-    vers: &'a [u8; 2112],
-    facs: &'a [u8; 2112],
-    impls: &'a [u8; 8448],
-    text: &'a [u8],
+    state: &State,
+    text: &[u8],
     at: usize,
 ) -> Shown
-    requires ready { Ready sets.now numbers.now comps.now vers.now facs.now impls.now }
+    requires ready { IsReady state.now }
     requires at_in_bounds { at ≤ length text.now }
-    ensures answers { Answers choice (Carried i (state_of sets.now numbers.now comps.now vers.now facs.now impls.now)
-        (state_of sets.now numbers.now comps.now vers.now facs.now impls.now)
-        room result.room out.old out.new) text.now at result.there result.end }
+    ensures answers { Answers choice (Carried i (plain_state state.now) (plain_state state.now) room result.room out.old out.new)
+        text.now at result.there result.end }
     ensures unread { Unread result.there at result.end room result.room out.old out.new }
 {
-    let k = read_command::read_choice(facs, text, at);
+    let k = read_command::read_choice(&state.names.facs, text, at);
     if !k.there {
         return Shown {
             there: false,
             end: at,
-            room: room,
+            room,
         };
     }
-    let after = put_known_choice(
-        out, room, i, sets, numbers, comps, vers, facs, impls, k.known, k.set,
-    );
+    let after = put_known_choice(out, room, i, state, k.known, k.set);
     Shown {
         there: true,
         end: k.end,
@@ -117,91 +98,55 @@ pub fn show_choice<'a>(
 // ---- of the whole book
 
 // "undefined"
-fn show_undefined<'a>(
-    out: &mut [u8],
-    room: Room,
-    i: usize,
-    sets: &'a [u64; 576],
-    numbers: &'a [u8; 8768],
-    comps: &'a [u8; 1056],
-    vers: &'a [u8; 2112],
-    facs: &'a [u8; 2112],
-    impls: &'a [u8; 8448],
-) -> Room
-    requires { Ready sets.now numbers.now comps.now vers.now facs.now impls.now }
-    ensures { Carried i (state_of sets.now numbers.now comps.now vers.now facs.now impls.now)
-        (state_of sets.now numbers.now comps.now vers.now facs.now impls.now)
-        room result out.old out.new UNDEFINED }
+fn show_undefined(out: &mut [u8], room: Room, i: usize, state: &State) -> Room
+    requires { IsReady state.now }
+    ensures { Carried i (plain_state state.now) (plain_state state.now) room result out.old out.new UNDEFINED }
 {
-    let found = query_sets::undefined_in(sets, numbers);
-    session_rows::put_numbers(out, room, i, comps, 32, found.answer, found.set)
+    let found = query_sets::undefined_in(&state.book);
+    session_rows::put_numbers(
+        out,
+        room,
+        i,
+        &state.names.comps,
+        32,
+        found.answer,
+        found.set,
+    )
 }
 
 // "unused"
-fn show_unused<'a>(
-    out: &mut [u8],
-    room: Room,
-    i: usize,
-    sets: &'a [u64; 576],
-    numbers: &'a [u8; 8768],
-    comps: &'a [u8; 1056],
-    vers: &'a [u8; 2112],
-    facs: &'a [u8; 2112],
-    impls: &'a [u8; 8448],
-) -> Room
-    requires { Ready sets.now numbers.now comps.now vers.now facs.now impls.now }
-    ensures { Carried i (state_of sets.now numbers.now comps.now vers.now facs.now impls.now)
-        (state_of sets.now numbers.now comps.now vers.now facs.now impls.now)
-        room result out.old out.new UNUSED }
+fn show_unused(out: &mut [u8], room: Room, i: usize, state: &State) -> Room
+    requires { IsReady state.now }
+    ensures { Carried i (plain_state state.now) (plain_state state.now) room result out.old out.new UNUSED }
 {
-    let found = query_sets::unused_in(sets, numbers);
-    session_rows::put_numbers(out, room, i, comps, 32, found.answer, found.set)
+    let found = query_sets::unused_in(&state.book);
+    session_rows::put_numbers(
+        out,
+        room,
+        i,
+        &state.names.comps,
+        32,
+        found.answer,
+        found.set,
+    )
 }
 
 // ""out" is followed by the book's text"
-fn show_text<'a>(
-    out: &mut [u8],
-    room: Room,
-    i: usize,
-    sets: &'a [u64; 576],
-    numbers: &'a [u8; 8768],
-    comps: &'a [u8; 1056],
-    vers: &'a [u8; 2112],
-    facs: &'a [u8; 2112],
-    impls: &'a [u8; 8448],
-) -> Room
-    ensures { Carried i (state_of sets.now numbers.now comps.now vers.now facs.now impls.now)
-        (state_of sets.now numbers.now comps.now vers.now facs.now impls.now)
-        room result out.old out.new OUT }
+fn show_text(out: &mut [u8], room: Room, i: usize, state: &State) -> Room
+    ensures { Carried i (plain_state state.now) (plain_state state.now) room result out.old out.new OUT }
 {
     let a = write_rows::put_answer_row(out, room, i, 0);
-    write_book::put_text(out, a, sets, numbers, comps, vers, facs, impls)
+    write_book::put_text(out, a, &state.book, &state.names)
 }
 
 // A query of the whole book.
-pub fn show_book<'a>(
-    out: &mut [u8],
-    room: Room,
-    i: usize,
-    sets: &'a [u64; 576],
-    numbers: &'a [u8; 8768],
-    comps: &'a [u8; 1056],
-    vers: &'a [u8; 2112],
-    facs: &'a [u8; 2112],
-    impls: &'a [u8; 8448],
-    what: OfBook,
-) -> Room
-    requires { Ready sets.now numbers.now comps.now vers.now facs.now impls.now }
-    ensures { Carried i
-        (state_of sets.now numbers.now comps.now vers.now facs.now impls.now)
-        (state_of sets.now numbers.now comps.now vers.now facs.now impls.now)
-        room result out.old out.new (asked_of_book what) }
+pub fn show_book(out: &mut [u8], room: Room, i: usize, state: &State, what: OfBook) -> Room
+    requires { IsReady state.now }
+    ensures { Carried i (plain_state state.now) (plain_state state.now) room result out.old out.new (asked_of_book what) }
 {
     match what {
-        OfBook::Undefined => {
-            show_undefined(out, room, i, sets, numbers, comps, vers, facs, impls)
-        }
-        OfBook::Unused => show_unused(out, room, i, sets, numbers, comps, vers, facs, impls),
-        OfBook::Text => show_text(out, room, i, sets, numbers, comps, vers, facs, impls),
+        OfBook::Undefined => show_undefined(out, room, i, state),
+        OfBook::Unused => show_unused(out, room, i, state),
+        OfBook::Text => show_text(out, room, i, state),
     }
 }

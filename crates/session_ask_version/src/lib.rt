@@ -8,148 +8,115 @@ ghost use Rattle.text.specs.Bytes.{short};
 ghost use Rattle.text.specs.Session.{asked, lines};
 ghost use Rattle.model.specs.Queries as model;
 ghost use Rattle.model.specs.Book.{specified};
-ghost use Rattle.book.specs.Plain.{plain_of};
+ghost use Rattle.book.specs.Plain.{plain};
 ghost use Rattle.read_tokens.specs.Readers.{Answers};
 ghost use Rattle.write_bytes.specs.Room.{Puts};
 ghost use Rattle.session_state.specs.Carried.{Carried, Unread};
-ghost use Rattle.session_state.specs.State.{Ready, state_of};
+ghost use Rattle.session_state.specs.State.{IsReady, plain_state};
 ghost use Rattle.read_command.specs.Forms.{asked_of_version};
 ghost use Rattle.session_rows.specs.Asked.{query_of_version};
 
+use book::Book;
 use read_command::OfVersion;
-use session_state::Shown;
+use session_state::{Shown, State};
 use write_bytes::Room;
 
 // The queries of version v of component c, one by one.
-fn put_needs<'a>(
-    out: &mut [u8],
-    room: Room,
-    i: usize,
-    sets: &'a [u64; 576],
-    numbers: &'a [u8; 8768],
-    comps: &'a [u8; 1056],
-    vers: &'a [u8; 2112],
-    facs: &'a [u8; 2112],
-    impls: &'a [u8; 8448],
-    c: usize,
-    v: usize,
-) -> Room
-    requires { Ready sets.now numbers.now comps.now vers.now facs.now impls.now }
-    ensures { Puts (lines i (asked (state_of sets.now numbers.now comps.now vers.now facs.now impls.now) (model.NEEDS c v))) room result out.old out.new }
+fn put_needs(out: &mut [u8], room: Room, i: usize, state: &State, c: usize, v: usize) -> Room
+    requires { IsReady state.now }
+    ensures { Puts (lines i (asked (plain_state state.now) (model.NEEDS c v))) room result out.old out.new }
 {
-    let found = query_replies::needs_in(sets, numbers, c, v);
-    session_rows::put_numbers(out, room, i, facs, 64, found.answer, found.set)
+    let found = query_replies::needs_in(&state.book, c, v);
+    session_rows::put_numbers(out, room, i, &state.names.facs, 64, found.answer, found.set)
 }
 
-fn put_parts<'a>(
-    out: &mut [u8],
-    room: Room,
-    i: usize,
-    sets: &'a [u64; 576],
-    numbers: &'a [u8; 8768],
-    comps: &'a [u8; 1056],
-    vers: &'a [u8; 2112],
-    facs: &'a [u8; 2112],
-    impls: &'a [u8; 8448],
-    c: usize,
-    v: usize,
-) -> Room
-    requires { Ready sets.now numbers.now comps.now vers.now facs.now impls.now }
-    ensures { Puts (lines i (asked (state_of sets.now numbers.now comps.now vers.now facs.now impls.now) (model.PARTS c v))) room result out.old out.new }
+fn put_parts(out: &mut [u8], room: Room, i: usize, state: &State, c: usize, v: usize) -> Room
+    requires { IsReady state.now }
+    ensures { Puts (lines i (asked (plain_state state.now) (model.PARTS c v))) room result out.old out.new }
 {
     // 32 components with 8 versions each: no parts list has more rows
     let mut rows: [u16; 256] = [0; 256];
-    let found = parts::parts_in(sets, numbers, c, v, &mut rows);
-    session_rows::put_listed(out, room, i, comps, vers, found.answer, &rows, found.rows)
+    let found = parts::parts_in(&state.book, c, v, &mut rows);
+    session_rows::put_listed(
+        out,
+        room,
+        i,
+        &state.names.comps,
+        &state.names.vers,
+        found.answer,
+        &rows,
+        found.rows,
+    )
 }
 
 // The one that is asked for.
-fn put_of_version<'a>(
+fn put_of_version(
     out: &mut [u8],
     room: Room,
     i: usize,
-    sets: &'a [u64; 576],
-    numbers: &'a [u8; 8768],
-    comps: &'a [u8; 1056],
-    vers: &'a [u8; 2112],
-    facs: &'a [u8; 2112],
-    impls: &'a [u8; 8448],
+    state: &State,
     c: usize,
     v: usize,
     query: OfVersion,
 ) -> Room
-    requires { Ready sets.now numbers.now comps.now vers.now facs.now impls.now }
-    ensures { Puts (lines i (asked (state_of sets.now numbers.now comps.now vers.now facs.now impls.now) (query_of_version query c v))) room result out.old out.new }
+    requires { IsReady state.now }
+    ensures { Puts (lines i (asked (plain_state state.now) (query_of_version query c v))) room result out.old out.new }
 {
     match query {
-        OfVersion::Needs => put_needs(out, room, i, sets, numbers, comps, vers, facs, impls, c, v),
-        OfVersion::Parts => put_parts(out, room, i, sets, numbers, comps, vers, facs, impls, c, v),
+        OfVersion::Needs => put_needs(out, room, i, state, c, v),
+        OfVersion::Parts => put_parts(out, room, i, state, c, v),
     }
 }
 
 // The answer where the version of c has no number.
-fn no_version<'a>(sets: &'a [u64; 576], numbers: &'a [u8; 8768], c: usize) -> usize
+fn no_version(book: &Book, c: usize) -> usize
     requires { c < 32 }
-    ensures { result ≡ (if? specified (plain_of sets.now numbers.now).specs c then 10 else 4) }
+    ensures { result ≡ (if? specified (plain book.now).specs c then 10 else 4) }
 {
-    if !book::is_specified(sets, numbers, c) {
+    if !book.is_specified(c) {
         return 4;
     }
     10
 }
 
 // The query of the version with these names.
-fn put_named_version<'a>(
+fn put_named_version(
     out: &mut [u8],
     room: Room,
     i: usize,
-    sets: &'a [u64; 576],
-    numbers: &'a [u8; 8768],
-    comps: &'a [u8; 1056],
-    vers: &'a [u8; 2112],
-    facs: &'a [u8; 2112],
-    impls: &'a [u8; 8448],
-    component: &'a [u8],
-    version: &'a [u8],
+    state: &State,
+    component: &[u8],
+    version: &[u8],
     query: OfVersion,
 ) -> Room
-    requires ready { Ready sets.now numbers.now comps.now vers.now facs.now impls.now }
+    requires ready { IsReady state.now }
     requires component_value { (short component.now ≡ true) × (short version.now ≡ true) }
-    ensures { Carried i (state_of sets.now numbers.now comps.now vers.now facs.now impls.now)
-        (state_of sets.now numbers.now comps.now vers.now facs.now impls.now)
-        room result out.old out.new (asked_of_version query component.now version.now) }
+    ensures { Carried i (plain_state state.now) (plain_state state.now) room result out.old out.new (asked_of_version query component.now version.now) }
 {
-    let names::Found::At(c) = names::lookup(comps, 32, component) else {
+    let Some(c) = names::lookup(&state.names.comps, 32, component) else {
         return write_rows::put_answer_row(out, room, i, 4);
     };
-    let names::Found::At(v) = names::lookup(vers, 64, version) else {
-        return write_rows::put_answer_row(out, room, i, no_version(sets, numbers, c));
+    let Some(v) = names::lookup(&state.names.vers, 64, version) else {
+        return write_rows::put_answer_row(out, room, i, no_version(&state.book, c));
     };
-    put_of_version(
-        out, room, i, sets, numbers, comps, vers, facs, impls, c, v, query,
-    )
+    put_of_version(out, room, i, state, c, v, query)
 }
 
 // A query of a component with a version, from behind its first word.
-pub fn show_version<'a>(
+pub fn show_version(
     out: &mut [u8],
     room: Room,
     i: usize,
-    sets: &'a [u64; 576],
-    numbers: &'a [u8; 8768],
-    comps: &'a [u8; 1056],
-    vers: &'a [u8; 2112],
-    facs: &'a [u8; 2112],
-    impls: &'a [u8; 8448],
-    text: &'a [u8],
+    state: &State,
+    text: &[u8],
     at: usize,
     query: OfVersion,
 ) -> Shown
-    requires ready { Ready sets.now numbers.now comps.now vers.now facs.now impls.now }
+    requires ready { IsReady state.now }
     requires at_in_bounds { at ≤ length text.now }
-    ensures answers { Answers (of_pair (asked_of_version query)) (Carried i (state_of sets.now numbers.now comps.now vers.now facs.now impls.now)
-        (state_of sets.now numbers.now comps.now vers.now facs.now impls.now)
-        room result.room out.old out.new) text.now at result.there result.end }
+    ensures answers { Answers (of_pair (asked_of_version query))
+        (Carried i (plain_state state.now) (plain_state state.now) room result.room out.old out.new)
+        text.now at result.there result.end }
     ensures unread { Unread result.there at result.end room result.room out.old out.new }
 {
     let w = read_command::read_pair(text, at);
@@ -157,7 +124,7 @@ pub fn show_version<'a>(
         return Shown {
             there: false,
             end: at,
-            room: room,
+            room,
         };
     }
     let a = w.start;
@@ -166,9 +133,7 @@ pub fn show_version<'a>(
     let b = w.from;
     let f = w.to;
     let version = words::part(text, b, f);
-    let after = put_named_version(
-        out, room, i, sets, numbers, comps, vers, facs, impls, component, version, query,
-    );
+    let after = put_named_version(out, room, i, state, component, version, query);
     Shown {
         there: true,
         end: f,

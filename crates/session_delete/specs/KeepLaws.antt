@@ -1,4 +1,4 @@
--- One of the ten commands, called on the arrays of a session.
+-- One of the ten commands, called on the Book of a session.
 use Rattle.std.specs.Prelude.{true, ◌⊎◌, ◌≡◌, refl, suc, zero, ℕ}
 use mathlib.Core.List.{List}
 use Rattle.std.proofs.Common.{inl, inr, ◌∙◌, subst, sym, arith}

@@ -1,5 +1,5 @@
 -- A command that takes out, read and carried out: a law for each way out of the code.
-use Rattle.std.specs.Prelude.{Bool, true, not as notᵇ, List, ◌≡◌, ◌<◌, ℕ}
+use Rattle.std.specs.Prelude.{Bool, true, not as notᵇ, List, None, Option as Found, Some, ◌≡◌, ◌<◌, ℕ}
 use Rattle.std.proofs.Math.Bool.{false}
 use Rattle.std.proofs.Math.Option.{Option, none, some}
 use Rattle.std.proofs.Common.{◌∙◌, subst, sym, arith}
@@ -12,9 +12,8 @@ use Rattle.read_command.specs.Words.{OneSaid, PairSaid}
 use Rattle.read_command.specs.declared.Parts.{Parts}
 use Rattle.model.specs.Book.{Book, components, versions}
 use Rattle.names.specs.EnterLaws.{found_at, found_nothing, table-length}
-use Rattle.names.specs.Stored.{answered, table_of, tables_of}
-use Rattle.names.specs.declared.Found.{Found}
-use Rattle.names.specs.declared.Found.TheVariants.{At, Nothing}
+use Rattle.names.specs.Stored.{table_of, tables_of}
+use Rattle.sets.specs.Answered.{answered}
 use Rattle.sets.specs.Tests.{if?◌then◌else◌}
 use Rattle.session_state.specs.Carried.{Decides}
 use Rattle.session_state.specs.CarriedLaws.{answers_as}
@@ -59,7 +58,7 @@ module _ (kind : Component) (t : Text) (at a e : ℕ) (there : Bool)
   one_read : (R : Said → Type 0) → R (removed kind (part t a e)) → Answers (of_one (removed kind)) R t at true e
   one_read R x = answers_as _ _ R t at e there (r (removed kind)) (not-false there y) (λ k q. subst R (sym q.is) x)
 
-  module _ (s n c v f i : List ℕ) (o : Found) (q : answered o ≡ place (table_of components c) (part t a e)) where
+  module _ (s n c v f i : List ℕ) (o : Found ℕ) (q : answered o ≡ place (table_of components c) (part t a e)) where
     abbrev taken : ℕ → Result
     taken j = told (plain_of s n) (tables_of c v f i) (component_command kind j)
 
@@ -70,13 +69,13 @@ module _ (kind : Component) (t : Text) (at a e : ℕ) (there : Bool)
     component_as p z = component_told kind (state_of s n c v f i) (part t a e)
         ∙ ap (λ (p : Option ℕ). for_component (component_answer kind) p taken) z
 
-    pub component_unknown : o ≡ Nothing → (m : ℕ) → m ≡ component_answer kind
+    pub component_unknown : o ≡ None → (m : ℕ) → m ≡ component_answer kind
         → Answers (of_one (removed kind)) (Decides (state_of s n c v f i) (state_of s n c v f i) m) t at true e
     unfolding for_component
     component_unknown z m d = one_read _
         (unchanged _ m _ (λ x. component_no kind (sym d ∙ x)) (component_as none (found_nothing o _ q z) ∙ ap refused (sym d)))
 
-    pub component_known : Ready s n c v f i → (k : ℕ) → o ≡ At k → (m : ℕ) (s' n' : List ℕ) → Called s n (component_command kind k) m s' n'
+    pub component_known : Ready s n c v f i → (k : ℕ) → o ≡ Some k → (m : ℕ) (s' n' : List ℕ) → Called s n (component_command kind k) m s' n'
         → Answers (of_one (removed kind)) (Decides (state_of s n c v f i) (state_of s' n' c v f i) m) t at true e
     unfolding for_component
     component_known ready k z m s' n' h =
@@ -110,7 +109,7 @@ refused_if true m j = refl
 refused_if false m j = refl
 
 -- a place of a table
-pub found_small : (n : ℕ) (bytes : List ℕ) (w : Name) (o : Found) (k : ℕ) → answered o ≡ place (table_of n bytes) w → o ≡ At k → k < n
+pub found_small : (n : ℕ) (bytes : List ℕ) (w : Name) (o : Found ℕ) (k : ℕ) → answered o ≡ place (table_of n bytes) w → o ≡ Some k → k < n
 found_small n bytes w o k q e =
     let p = (place_name (table_of n bytes) w k (found_at o k _ q e)).1 in let l = table-length n bytes in omega arith
 
@@ -128,7 +127,7 @@ module _ (kind : Version) (t : Text) (at : ℕ) (r : Parts) (g : (h : Name → N
   pair_read : (R : Said → Type 0) → R (version_removed kind component_name version_name) → Answers (of_pair (version_removed kind)) R t at true r.to
   pair_read R x = answers_as _ _ R t at r.to r.there (g (version_removed kind)) (not-false r.there y) (λ k q. subst R (sym q.is) x)
 
-  module _ (s n c v f i : List ℕ) (o : Found) (q : answered o ≡ place (table_of components c) component_name) where
+  module _ (s n c v f i : List ℕ) (o : Found ℕ) (q : answered o ≡ place (table_of components c) component_name) where
     abbrev version_taken : ℕ → ℕ → Result
     version_taken j l = told (plain_of s n) (tables_of c v f i) (version_command kind j l)
 
@@ -140,21 +139,21 @@ module _ (kind : Version) (t : Text) (at : ℕ) (r : Parts) (g : (h : Name → N
     version_as p u z x = version_told kind (state_of s n c v f i) component_name version_name
         ∙ ap₂ (λ (p u : Option ℕ). for_pair (pair_answer kind) (is_of_kind kind (plain_of s n)) p u version_taken) z x
 
-    pub pair_unknown : o ≡ Nothing → (m : ℕ) → m ≡ pair_answer kind
+    pub pair_unknown : o ≡ None → (m : ℕ) → m ≡ pair_answer kind
         → Answers (of_pair (version_removed kind)) (Decides (state_of s n c v f i) (state_of s n c v f i) m) t at true r.to
     unfolding for_pair
     pair_unknown z m d = pair_read _
         (unchanged _ m _ (λ x. pair_no kind (sym d ∙ x)) (version_as none _ (found_nothing o _ q z) refl ∙ ap refused (sym d)))
 
-    module _ (j : ℕ) (z : o ≡ At j) (o' : Found) (q' : answered o' ≡ place (table_of versions v) version_name) where
-      pub version_unknown : o' ≡ Nothing → (m : ℕ) → m ≡ version_answer kind (plain_of s n) j
+    module _ (j : ℕ) (z : o ≡ Some j) (o' : Found ℕ) (q' : answered o' ≡ place (table_of versions v) version_name) where
+      pub version_unknown : o' ≡ None → (m : ℕ) → m ≡ version_answer kind (plain_of s n) j
           → Answers (of_pair (version_removed kind)) (Decides (state_of s n c v f i) (state_of s n c v f i) m) t at true r.to
       unfolding for_pair version_answer
       version_unknown x m d = pair_read _
           (unchanged _ m _ (λ x. version_no kind (plain_of s n) j (sym d ∙ x))
           (version_as (some j) none (found_at o j _ q z) (found_nothing o' _ q' x) ∙ refused_if (is_of_kind kind (plain_of s n) j) 10 (pair_answer kind) ∙ ap refused (sym d)))
 
-      pub version_known : Ready s n c v f i → (l : ℕ) → o' ≡ At l → (m : ℕ) (s' n' : List ℕ) → Called s n (version_command kind j l) m s' n'
+      pub version_known : Ready s n c v f i → (l : ℕ) → o' ≡ Some l → (m : ℕ) (s' n' : List ℕ) → Called s n (version_command kind j l) m s' n'
           → Answers (of_pair (version_removed kind)) (Decides (state_of s n c v f i) (state_of s' n' c v f i) m) t at true r.to
       unfolding for_pair
       version_known ready l x m s' n' h =

@@ -19,9 +19,10 @@ use Rattle.model.specs.Lists.{every, set_of}
 use Rattle.model.specs.Maps.{is_some}
 use Rattle.model.specs.Queries as model
 use Rattle.names.specs.EnterLaws.{found_at, found_nothing, table-length}
-use Rattle.names.specs.Stored.{answered, table_of, tables_of}
-use Rattle.names.specs.declared.Found.{Found}
-use Rattle.names.specs.declared.Found.TheVariants.{At, Nothing}
+use Rattle.names.specs.Stored.{table_of, tables_of}
+use Rattle.sets.specs.Answered.{answered}
+use Rattle.std.specs.Prelude.{Option as Found}
+use Rattle.std.specs.Prelude.{None, Some}
 use Rattle.sets.specs.Sets.{bit}
 use Rattle.sets.specs.TestLaws.{if-false, if-true}
 use Rattle.sets.specs.Tests.{if?◌then◌else◌}
@@ -64,9 +65,9 @@ module _ (i : ℕ) (k : OfComponent) where
       by Standard = unfold carry asked_of query_of in refl
       by WhereUsed = unfold carry asked_of query_of in refl
 
-  module _ (s n c v f m : List ℕ) (w : Name) (g : Found) (e : answered g ≡ place (table_of components c) w) {p q : Room} {old new : List ℕ} where
+  module _ (s n c v f m : List ℕ) (w : Name) (g : Found ℕ) (e : answered g ≡ place (table_of components c) w) {p q : Room} {old new : List ℕ} where
     -- "a name that stands in no table has no number: the component or version then doesn't exist"
-    pub component_unknown : g ≡ Nothing → Puts (row i (decimal 4)) p q old new
+    pub component_unknown : g ≡ None → Puts (row i (decimal 4)) p q old new
         → Carried i (state_of s n c v f m) (state_of s n c v f m) p q old new (asked_of k w)
     unfolding state_of tables_of of_component for_component afterwards lines
     component_unknown h z =
@@ -74,7 +75,7 @@ module _ (i : ℕ) (k : OfComponent) where
         (component_carry (state_of s n c v f m) w
         ∙ ap (λ (o : Option ℕ). for_component 4 o (λ d. asked (state_of s n c v f m) (query_of k d))) (found_nothing g _ e h)) refl z
 
-    pub component_known : (d : ℕ) → g ≡ At d → Puts (lines i (asked (state_of s n c v f m) (query_of k d))) p q old new
+    pub component_known : (d : ℕ) → g ≡ Some d → Puts (lines i (asked (state_of s n c v f m) (query_of k d))) p q old new
         → Carried i (state_of s n c v f m) (state_of s n c v f m) p q old new (asked_of k w)
     unfolding state_of tables_of of_component for_component
     component_known d h z =
@@ -105,7 +106,7 @@ module _ (f : Name → Name → Said) (t : Text) (at : ℕ) (r : PairRead) (a : 
     pub pair_answers : (R : Said → Type 0) → R (f w x) → Answers (of_pair f) R t at true r.to
     pair_answers R y = answers_as (of_pair f) (PairSaid f t r) R t at r.to r.there a (not-false r.there n) (λ z q. subst R (ap₂ f ew ex ∙ sym q.is) y)
 
-pub number_small : (n : ℕ) (bytes : List ℕ) (w : Name) (g : Found) (k : ℕ) → answered g ≡ place (table_of n bytes) w → g ≡ At k → k < n
+pub number_small : (n : ℕ) (bytes : List ℕ) (w : Name) (g : Found ℕ) (k : ℕ) → answered g ≡ place (table_of n bytes) w → g ≡ Some k → k < n
 number_small n bytes w g k e h =
     let p = (place_name (table_of n bytes) w k (found_at g k _ e h)).1 in let l = table-length n bytes in omega arith
 
@@ -118,7 +119,7 @@ module _ (i : ℕ) (k : OfVersion) where
       by Needs = unfold carry asked_of_version query_of_version in refl
       by Parts = unfold carry asked_of_version query_of_version in refl
 
-  module _ (s n c v f m : List ℕ) (w x : Name) (g : Found) (e : answered g ≡ place (table_of components c) w) where
+  module _ (s n c v f m : List ℕ) (w x : Name) (g : Found ℕ) (e : answered g ≡ place (table_of components c) w) where
     abbrev now : State
     now = state_of s n c v f m
 
@@ -128,13 +129,13 @@ module _ (i : ℕ) (k : OfVersion) where
     carry_is o o' d d' =
         version_carry now w x ∙ ap₂ (λ (y z : Option ℕ). for_pair 4 (specified (plain_of s n).specs) y z (λ d u. asked now (query_of_version k d u))) d d'
 
-    pub version_no_component : {p q : Room} {old new : List ℕ} → g ≡ Nothing → Puts (row i (decimal 4)) p q old new → Carried i now now p q old new (asked_of_version k w x)
+    pub version_no_component : {p q : Room} {old new : List ℕ} → g ≡ None → Puts (row i (decimal 4)) p q old new → Carried i now now p q old new (asked_of_version k w x)
     unfolding for_pair afterwards lines
     version_no_component h z = carried i now (asked_of_version k w x) (refused 4) (carry_is none _ (found_nothing g _ e h) refl) refl z
 
-    module _ (d : ℕ) (h : g ≡ At d) (g' : Found) (e' : answered g' ≡ place (table_of versions v) x) where
+    module _ (d : ℕ) (h : g ≡ Some d) (g' : Found ℕ) (e' : answered g' ≡ place (table_of versions v) x) where
       -- a version without a number: 10 where the component is specified, else 4
-      pub version_no_number : {p q : Room} {old new : List ℕ} → g' ≡ Nothing → (a : ℕ) → a ≡ (if? specified (plain_of s n).specs d then 10 else 4) → Puts (row i (decimal a)) p q old new
+      pub version_no_number : {p q : Room} {old new : List ℕ} → g' ≡ None → (a : ℕ) → a ≡ (if? specified (plain_of s n).specs d then 10 else 4) → Puts (row i (decimal a)) p q old new
           → Carried i now now p q old new (asked_of_version k w x)
       unfolding for_pair
       version_no_number h' a ea z =
@@ -150,7 +151,7 @@ module _ (i : ℕ) (k : OfVersion) where
           shows true = unfold lines if?◌then◌else◌ in refl
           shows false = unfold lines if?◌then◌else◌ in refl
 
-      pub version_known : {p q : Room} {old new : List ℕ} → (u : ℕ) → g' ≡ At u → Puts (lines i (asked now (query_of_version k d u))) p q old new
+      pub version_known : {p q : Room} {old new : List ℕ} → (u : ℕ) → g' ≡ Some u → Puts (lines i (asked now (query_of_version k d u))) p q old new
           → Carried i now now p q old new (asked_of_version k w x)
       unfolding for_pair
       version_known u h' z =

@@ -15,12 +15,6 @@ use write_bytes::Room;
 
 // ---- rows
 
-pub fn wide(x: u8) -> usize
-    ensures { result ≡ x }
-{
-    x as usize
-}
-
 // The row of number k, if it is in the set.
 fn put_if_member(
     out: &mut [u8],
@@ -66,40 +60,34 @@ pub fn put_numbers(
     requires { length names.now ≡ places * 33 }
     ensures { Puts (answer_rows i answer (names_in (table_of places names.now) set)) room result out.old out.new }
 {
-    let a = write_rows::put_answer_row(out, room, i, wide(answer));
+    let a = write_rows::put_answer_row(out, room, i, usize::from(answer));
     put_set(out, a, i, names, places, set)
 }
 
-fn wide_row(x: u16) -> usize
-    ensures { result ≡ x }
-{
-    x as usize
-}
-
 // The row of a pair, which is component × 64 + version.
-fn put_pair<'a>(
+fn put_pair(
     out: &mut [u8],
     room: Room,
     i: usize,
-    comps: &'a [u8; 1056],
-    vers: &'a [u8; 2112],
+    comps: &[u8; 1056],
+    vers: &[u8; 2112],
     pair: u16,
 ) -> Room
     ensures { Puts (row i (pair_in comps.now vers.now pair)) room result out.old out.new }
 {
-    let k = wide_row(pair);
+    let k = usize::from(pair);
     let c = k / 64;
     let v = k % 64;
     write_rows::put_pair_row(out, room, i, comps, vers, c, v)
 }
 
 // The rows of the first pairs of a slice.
-fn put_pairs<'a>(
+fn put_pairs(
     out: &mut [u8],
     room: Room,
     i: usize,
-    comps: &'a [u8; 1056],
-    vers: &'a [u8; 2112],
+    comps: &[u8; 1056],
+    vers: &[u8; 2112],
     rows: &[u16],
     count: usize,
 ) -> Room
@@ -114,12 +102,12 @@ fn put_pairs<'a>(
 }
 
 // The answer of a query for pairs, which has no rows where it is refused.
-pub fn put_listed<'a>(
+pub fn put_listed(
     out: &mut [u8],
     room: Room,
     i: usize,
-    comps: &'a [u8; 1056],
-    vers: &'a [u8; 2112],
+    comps: &[u8; 1056],
+    vers: &[u8; 2112],
     answer: u8,
     rows: &[u16],
     count: usize,
@@ -127,6 +115,6 @@ pub fn put_listed<'a>(
     requires { count ≤ length rows.now }
     ensures { Puts (answer_rows i answer (pairs_in comps.now vers.now count rows.now)) room result out.old out.new }
 {
-    let a = write_rows::put_answer_row(out, room, i, wide(answer));
+    let a = write_rows::put_answer_row(out, room, i, usize::from(answer));
     put_pairs(out, a, i, comps, vers, rows, count)
 }

@@ -1,5 +1,5 @@
 -- A session as a loop of steps.
-use Rattle.std.specs.Prelude.{Bool, false, true, not as notᵇ, List, ◌++◌, ◌≡◌, ◌*◌, ◌+◌, ◌-◌, ◌<◌, ◌≤◌, suc, ℕ, drop, length}
+use Rattle.std.specs.Prelude.{Bool, false, true, not as notᵇ, List, ◌++◌, ◌≡◌, ◌+◌, ◌<◌, ◌≤◌, suc, ℕ, drop, length}
 use Rattle.std.proofs.Common.{append-nil, ◌∙◌, ap, ap₂, subst, sym, arith, length-drop, drop-drop}
 use Rattle.std.proofs.lemmas.Bool.{not-false, not-true}
 use Rattle.write_bytes.specs.RoomLaws.{partly_as, partly_end, partly_more, partly_start}
@@ -25,7 +25,7 @@ on_rest w {i} {e} {s} {s'} {q} {r} {now} {new} {more} d = subst (λ (x : Text). 
 
 module _ {t : Text} {start at i e : ℕ} {s s' : State} {q r : Room} {old now new : List ℕ} {more : Bool} (u : Running t start at i s q old now)
     (d : Stepped i (drop at t) s s' q r now new more e) where
-  pub forward : notᵇ more ≡ false → (0 < e) × (at + e ≤ length t)
+  forward : notᵇ more ≡ false → (0 < e) × (at + e ≤ length t)
   forward h =
       let m = not-false more h in let a = d.onward m in let b = d.inside m in let l = length-drop at t in let k = u.inside in
       (a, omega arith)
@@ -44,9 +44,6 @@ module _ {t : Text} {start at i e : ℕ} {s s' : State} {q r : Room} {old now ne
         numbered = (let a = (forward h).0 in let b = u.numbered in omega (arith, behind));
       }
 
-  pub running_less : {f : ℕ} → f ≡ at + e → notᵇ more ≡ false → length t - f < length t - at
-  running_less behind h = let a = (forward h).0 in let b = (forward h).1 in omega (arith, behind)
-
   pub ran : notᵇ more ≡ true → Ran (drop start t) s' r old new
   ran h =
       let g = d.ends (not-true more h) in
@@ -54,7 +51,3 @@ module _ {t : Text} {start at i e : ℕ} {s s' : State} {q r : Room} {old now ne
         puts = partly_end (partly_more (partly_as (ap (λ (z : Text × State). z.0) g ∙ sym (append-nil d.rows)) u.listing) d.puts);
         state = sym (ap (λ (z : Text × State). z.1) g) ∙ u.state;
       }
-
-  -- the number of the next command is one of the machine's
-  pub step_fits : notᵇ more ≡ false → length t * 1 < 9223372036854775808 → i + 1 < 18446744073709551616
-  step_fits h l = let a = (forward h).0 in let b = (forward h).1 in let n = u.numbered in omega arith

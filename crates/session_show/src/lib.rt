@@ -5,82 +5,60 @@ ghost use Rattle.std.specs.Prelude.{◌≤◌, length};
 ghost use Rattle.read_command.specs.Forms.{named_reader, query_reader};
 ghost use Rattle.read_tokens.specs.Readers.{Answers};
 ghost use Rattle.session_state.specs.Carried.{Carried, Unread};
-ghost use Rattle.session_state.specs.State.{Ready, state_of};
+ghost use Rattle.session_state.specs.State.{IsReady, plain_state};
 
 use read_command::{Named, Query};
 use session_ask_book::{show_book, show_choice};
 use session_ask_component::show_component;
 use session_ask_version::show_version;
-use session_state::Shown;
+use session_state::{Shown, State};
 use write_bytes::Room;
 
 // A query of a component, or of a component and a version.
-fn show_named<'a>(
+fn show_named(
     out: &mut [u8],
     room: Room,
     i: usize,
-    sets: &'a [u64; 576],
-    numbers: &'a [u8; 8768],
-    comps: &'a [u8; 1056],
-    vers: &'a [u8; 2112],
-    facs: &'a [u8; 2112],
-    impls: &'a [u8; 8448],
-    text: &'a [u8],
+    state: &State,
+    text: &[u8],
     at: usize,
     named: Named,
 ) -> Shown
-    requires ready { Ready sets.now numbers.now comps.now vers.now facs.now impls.now }
+    requires ready { IsReady state.now }
     requires at_in_bounds { at ≤ length text.now }
-    ensures answers { Answers (named_reader named) (Carried i
-        (state_of sets.now numbers.now comps.now vers.now facs.now impls.now)
-        (state_of sets.now numbers.now comps.now vers.now facs.now impls.now)
-        room result.room out.old out.new) text.now at result.there result.end }
+    ensures answers { Answers (named_reader named) (Carried i (plain_state state.now) (plain_state state.now) room result.room out.old out.new)
+        text.now at result.there result.end }
     ensures unread { Unread result.there at result.end room result.room out.old out.new }
 {
     match named {
-        Named::One(what) => show_component(
-            out, room, i, sets, numbers, comps, vers, facs, impls, text, at, what,
-        ),
-        Named::Pair(what) => show_version(
-            out, room, i, sets, numbers, comps, vers, facs, impls, text, at, what,
-        ),
+        Named::One(what) => show_component(out, room, i, state, text, at, what),
+        Named::Pair(what) => show_version(out, room, i, state, text, at, what),
     }
 }
 
 // Any query.
-pub fn show<'a>(
+pub fn show(
     out: &mut [u8],
     room: Room,
     i: usize,
-    sets: &'a [u64; 576],
-    numbers: &'a [u8; 8768],
-    comps: &'a [u8; 1056],
-    vers: &'a [u8; 2112],
-    facs: &'a [u8; 2112],
-    impls: &'a [u8; 8448],
-    text: &'a [u8],
+    state: &State,
+    text: &[u8],
     at: usize,
     query: Query,
 ) -> Shown
-    requires ready { Ready sets.now numbers.now comps.now vers.now facs.now impls.now }
+    requires ready { IsReady state.now }
     requires at_in_bounds { at ≤ length text.now }
-    ensures answers { Answers (query_reader query) (Carried i
-        (state_of sets.now numbers.now comps.now vers.now facs.now impls.now)
-        (state_of sets.now numbers.now comps.now vers.now facs.now impls.now)
-        room result.room out.old out.new) text.now at result.there result.end }
+    ensures answers { Answers (query_reader query) (Carried i (plain_state state.now) (plain_state state.now) room result.room out.old out.new)
+        text.now at result.there result.end }
     ensures unread { Unread result.there at result.end room result.room out.old out.new }
 {
     match query {
-        Query::ByName(named) => show_named(
-            out, room, i, sets, numbers, comps, vers, facs, impls, text, at, named,
-        ),
-        Query::Choice => show_choice(
-            out, room, i, sets, numbers, comps, vers, facs, impls, text, at,
-        ),
+        Query::ByName(named) => show_named(out, room, i, state, text, at, named),
+        Query::Choice => show_choice(out, room, i, state, text, at),
         Query::Whole(what) => Shown {
             there: true,
             end: at,
-            room: show_book(out, room, i, sets, numbers, comps, vers, facs, impls, what),
+            room: show_book(out, room, i, state, what),
         },
     }
 }

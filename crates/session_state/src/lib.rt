@@ -1,7 +1,16 @@
 // What a session holds between two commands, and what carrying out one command is (specs/State.antt, specs/Carried.antt).
 #![tactic(auto)]
 
+use book::Book;
+use names::Names;
 use write_bytes::Room;
+
+// A book, and the names of what it holds.
+#[derive(Clone, Copy)]
+pub struct State {
+    pub book: Book,
+    pub names: Names,
+}
 
 // One of the ten commands that was read, if `there`: the position behind it, and its answer.
 #[derive(Clone, Copy)]

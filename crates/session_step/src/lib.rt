@@ -4,11 +4,12 @@
 ghost use Rattle.std.specs.Prelude.{false, ◌≡◌, ◌≤◌, length};
 ghost use Rattle.text.specs.Session.{decimal, row};
 ghost use Rattle.write_bytes.specs.Room.{Puts};
-ghost use Rattle.session_state.specs.State.{Ready, state_of};
+ghost use Rattle.session_state.specs.State.{IsReady, plain_state};
 ghost use Rattle.read_command.specs.Forms.{command_reader, query_reader};
 ghost use Rattle.session_step.specs.Stepped.{Behind, Stepped};
 
 use read_command::{Command, Form, Query};
+use session_state::State;
 use write_bytes::Room;
 
 // A step of a session: whether there is more, the position at which it goes on if there is, and the room that is left.
@@ -35,12 +36,7 @@ fn refuse(out: &mut [u8], room: Room, i: usize) -> Advance
 
 // One of the ten commands, whose first word is read: its row, and its change of book and tables.
 fn change(
-    sets: &mut [u64; 576],
-    numbers: &mut [u8; 8768],
-    comps: &mut [u8; 1056],
-    vers: &mut [u8; 2112],
-    facs: &mut [u8; 2112],
-    impls: &mut [u8; 8448],
+    state: &mut State,
     text: &[u8],
     at: usize,
     i: usize,
@@ -48,96 +44,70 @@ fn change(
     room: Room,
     command: Command,
 ) -> Advance
-    requires ready { Ready sets.old numbers.old comps.old vers.old facs.old impls.old }
+    requires ready { IsReady state.old }
     requires at_in_bounds { at ≤ length text.now }
-    ensures ready_2 { Ready sets.new numbers.new comps.new vers.new facs.new impls.new }
+    ensures ready_2 { IsReady state.new }
     ensures behind { Behind (command_reader command) i text.now at
-        (state_of sets.old numbers.old comps.old vers.old facs.old impls.old)
-        (state_of sets.new numbers.new comps.new vers.new facs.new impls.new)
+        (plain_state state.old)
+        (plain_state state.new)
         room result.room out.old out.new result.more result.end }
 {
-    let d = session_decide::decide(sets, numbers, comps, vers, facs, impls, text, at, command);
+    let d = session_decide::decide(state, text, at, command);
     if !d.there {
         return refuse(out, room, i);
     }
-    let answer = d.answer;
     Advance {
         more: true,
         end: d.end,
-        room: write_rows::put_answer_row(out, room, i, answer),
+        room: write_rows::put_answer_row(out, room, i, d.answer),
     }
 }
 
 // A query, whose first word is read: its rows, or 23.
-fn ask<'a>(
+fn ask(
     out: &mut [u8],
     room: Room,
     i: usize,
-    sets: &'a [u64; 576],
-    numbers: &'a [u8; 8768],
-    comps: &'a [u8; 1056],
-    vers: &'a [u8; 2112],
-    facs: &'a [u8; 2112],
-    impls: &'a [u8; 8448],
-    text: &'a [u8],
+    state: &State,
+    text: &[u8],
     at: usize,
     query: Query,
 ) -> Advance
-    requires ready { Ready sets.now numbers.now comps.now vers.now facs.now impls.now }
+    requires ready { IsReady state.now }
     requires at_in_bounds { at ≤ length text.now }
     ensures { Behind (query_reader query) i text.now at
-        (state_of sets.now numbers.now comps.now vers.now facs.now impls.now)
-        (state_of sets.now numbers.now comps.now vers.now facs.now impls.now)
+        (plain_state state.now)
+        (plain_state state.now)
         room result.room out.old out.new result.more result.end }
 {
-    let s = session_show::show(
-        out, room, i, sets, numbers, comps, vers, facs, impls, text, at, query,
-    );
-    let after = s.room;
+    let s = session_show::show(out, room, i, state, text, at, query);
     if !s.there {
-        return refuse(out, after, i);
+        return refuse(out, s.room, i);
     }
     Advance {
         more: true,
         end: s.end,
-        room: after,
+        room: s.room,
     }
 }
 
 // The next command, the i-th, which is read from the rest of the text after the one before: its rows, and its change of book and tables.
-pub fn step(
-    sets: &mut [u64; 576],
-    numbers: &mut [u8; 8768],
-    comps: &mut [u8; 1056],
-    vers: &mut [u8; 2112],
-    facs: &mut [u8; 2112],
-    impls: &mut [u8; 8448],
-    rest: &[u8],
-    i: usize,
-    out: &mut [u8],
-    room: Room,
-) -> Advance
-    requires { Ready sets.old numbers.old comps.old vers.old facs.old impls.old }
-    ensures ready { Ready sets.new numbers.new comps.new vers.new facs.new impls.new }
+pub fn step(state: &mut State, rest: &[u8], i: usize, out: &mut [u8], room: Room) -> Advance
+    requires { IsReady state.old }
+    ensures ready { IsReady state.new }
     ensures stepped { Stepped i rest.now
-        (state_of sets.old numbers.old comps.old vers.old facs.old impls.old)
-        (state_of sets.new numbers.new comps.new vers.new facs.new impls.new)
+        (plain_state state.old)
+        (plain_state state.new)
         room result.room out.old out.new result.more result.end }
 {
     let w = read_command::read_command(rest, 0);
-    let e = w.end;
-    let form = w.form;
-    match form {
-        Form::Changes(command) => change(
-            sets, numbers, comps, vers, facs, impls, rest, e, i, out, room, command,
-        ),
-        Form::Asks(query) => ask(
-            out, room, i, sets, numbers, comps, vers, facs, impls, rest, e, query,
-        ),
+    match w.form {
+        Form::Changes(command) => change(state, rest, w.end, i, out, room, command),
+        Form::Asks(query) => ask(out, room, i, state, rest, w.end, query),
         Form::Over => Advance {
             more: false,
             end: 0,
-            room: room,
+            room,
         },
         Form::Nothing => refuse(out, room, i),
     }

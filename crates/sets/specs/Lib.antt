@@ -3,3 +3,4 @@ pub mod TestLaws
 pub mod Sets
 pub mod SetLaws
 pub mod LoopLaws
+pub mod Answered

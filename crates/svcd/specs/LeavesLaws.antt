@@ -1,5 +1,5 @@
 -- What a session leaves, whether its listing fits the slice or not; and the state that it begins with.
-use Rattle.std.specs.Prelude.{Bool, not, List, ◌++◌, ◌≡◌, ◌*◌, ◌+◌, ◌-◌, ◌<◌, ◌≤◌, ℕ, negsuc, take}
+use Rattle.std.specs.Prelude.{Bool, not, List, [], ◌++◌, ◌≡◌, ◌*◌, ◌+◌, ◌-◌, ◌<◌, ◌≤◌, ℕ, negsuc, take}
 use Rattle.std.proofs.Math.Bool.{false, true}
 use Rattle.std.proofs.Math.Logic.{inl, inr}
 use Rattle.std.proofs.Common.{◌∙◌, ap₂, le_refl}
@@ -8,17 +8,14 @@ use Rattle.std.proofs.Math.Nat.{sub_self}
 use native.Mathlib.Omega.{arith}
 use borrow.Author.Tests.{not-false, not-true}
 use Rattle.std.proofs.Math.IntN.{pos}
-use Rattle.std.proofs.lemmas.List.{get_or-replicate}
 use Rattle.std.proofs.Math.ListN.{length, length-replicate, replicate}
 use Rattle.book.specs.Plain.{plain_of}
-use Rattle.book.specs.Readers.{fresh_plain}
 use Rattle.read_tokens.specs.Entering.{Kept}
 use Rattle.write_bytes.specs.Room.{written_in}
 use Rattle.write_bytes.specs.declared.Room.{Room}
 use Rattle.model.specs.Book.{Book, empty}
 use Rattle.model.specs.Lists.{every, non_empty}
-use Rattle.names.specs.StoredLaws.{no_names_lem, zeros_empty}
-use Rattle.book_rules.specs.Test as test
+use Rattle.names.specs.Stored.{table_of, tables_of}
 use Rattle.book_rules.specs.TestLaws.{empty_book_passes}
 use Rattle.sets.specs.TestLaws.{and-false, and-true, bool?, fails, if-false, if-true, ≤?_in, ≤?_out}
 use Rattle.sets.specs.Tests.{◌≤?◌}
@@ -28,7 +25,7 @@ use Rattle.session_state.specs.State.{Ready, state_of}
 use Rattle.text.specs.Bytes.{Text}
 use Rattle.text.specs.LentSlice.{fits_in, host_fits, host_result, host_slice, listing_in, most_bytes, slice_after, state_after}
 use Rattle.text.specs.Session.{State, fresh, session}
-use Rattle.text.specs.Tables.{Tables}
+use Rattle.text.specs.Tables.{Tables, no_names}
 use Rattle.session_run.specs.Ran.{Ran}
 use Rattle.svcd.specs.Reached.{Leaves, SessionCall, answer_of, length_of, state_in}
 
@@ -150,27 +147,20 @@ module _ (t : Text) (old : List ℕ) where
 
 -- ---- an empty state
 
-zero_book : plain_of (replicate 576 0) (replicate 8768 0) ≡ empty
-zero_book = fresh_plain (replicate 576 0) (replicate 8768 0) (λ c l. get_or-replicate 8768 c 0 0 (omega arith))
+kept_empty : (n : ℕ) {bytes : List ℕ} → length bytes ≡ n * 33 → table_of n bytes ≡ [] → Kept n bytes
+kept_empty n l e = record { long = l; held = ap (every non_empty) e ∙ unfold every in refl }
 
-zero-passes : test.passes (replicate 576 0) (replicate 8768 0) ≡ true
-zero-passes = empty_book_passes _ _ zero_book
+module _ (s n c v f i : List ℕ) (b : plain_of s n ≡ empty) (t : tables_of c v f i ≡ no_names) where
+  pub empty_ready : length c ≡ 1056 → length v ≡ 2112 → length f ≡ 2112 → length i ≡ 8448 → Ready s n c v f i
+  unfolding tables_of
+  empty_ready lc lv lf li = record {
+    passes = empty_book_passes _ _ b;
+    comps = kept_empty 32 lc (ap (λ (x : Tables). x.comps) t);
+    vers = kept_empty 64 lv (ap (λ (x : Tables). x.vers) t);
+    facs = kept_empty 64 lf (ap (λ (x : Tables). x.facs) t);
+    impls = kept_empty 256 li (ap (λ (x : Tables). x.impls) t);
+  }
 
-zero_kept : (n m : ℕ) → m ≡ n * 33 → Kept n (replicate m 0)
-zero_kept n m e = record {
-  long = length-replicate m 0 ∙ e;
-  held = ap (every non_empty) (zeros_empty n m (omega arith)) ∙ unfold every in refl;
-}
-
-pub zero-ready : Ready (replicate 576 0) (replicate 8768 0) (replicate 1056 0) (replicate 2112 0) (replicate 2112 0) (replicate 8448 0)
-zero-ready = record {
-  passes = zero-passes;
-  comps = zero_kept 32 1056 refl;
-  vers = zero_kept 64 2112 refl;
-  facs = zero_kept 64 2112 refl;
-  impls = zero_kept 256 8448 refl;
-}
-
-pub zero_fresh : state_of (replicate 576 0) (replicate 8768 0) (replicate 1056 0) (replicate 2112 0) (replicate 2112 0) (replicate 8448 0) ≡ fresh
-unfolding state_of
-zero_fresh = ap₂ (λ (b : Book) (t : Tables). record { book = b; tables = t }) zero_book no_names_lem
+  pub empty_fresh : state_of s n c v f i ≡ fresh
+  unfolding state_of
+  empty_fresh = ap₂ (λ (x : Book) (y : Tables). record { book = x; tables = y }) b t

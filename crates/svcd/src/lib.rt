@@ -2,32 +2,24 @@
 #![tactic(auto)]
 
 ghost use Rattle.std.specs.Prelude.{◌≡◌};
-ghost use Rattle.session_state.specs.State.{Ready, state_of};
+ghost use Rattle.session_state.specs.State.{IsReady, plain_state};
 ghost use Rattle.text.specs.Session.{fresh};
 ghost use Rattle.svcd.specs.Reached.{Leaves, SessionCall};
 ghost use Rattle.text.specs.LentSlice.{host_result, host_slice};
 
 use book::Book;
 use names::Names;
+use session_state::State;
 
 // An empty book and empty tables.
-fn clear_state(
-    sets: &mut [u64; 576],
-    numbers: &mut [u8; 8768],
-    comps: &mut [u8; 1056],
-    vers: &mut [u8; 2112],
-    facs: &mut [u8; 2112],
-    impls: &mut [u8; 8448],
-)
-    ensures ready { Ready sets.new numbers.new comps.new vers.new facs.new impls.new }
-    ensures impls_after { state_of sets.new numbers.new comps.new vers.new facs.new impls.new ≡ fresh }
+fn empty() -> State
+    ensures ready { IsReady result }
+    ensures is_fresh { plain_state result ≡ fresh }
 {
-    *sets = [0; 576];
-    *numbers = [0; 8768];
-    *comps = [0; 1056];
-    *vers = [0; 2112];
-    *facs = [0; 2112];
-    *impls = [0; 8448];
+    State {
+        book: Book::fresh(),
+        names: names::no_names(),
+    }
 }
 
 // The listing of a text at the start of a lent slice: whether it fits, and how many bytes it has.
@@ -39,25 +31,16 @@ pub struct Listing {
 
 // The session of a text in an empty state, which is left as reached. "A listing longer than the slice gives 22 and a slice of
 // zeros"; "after 22 both are empty".
-fn list(
-    sets: &mut [u64; 576],
-    numbers: &mut [u8; 8768],
-    comps: &mut [u8; 1056],
-    vers: &mut [u8; 2112],
-    facs: &mut [u8; 2112],
-    impls: &mut [u8; 8448],
-    text: &[u8],
-    out: &mut [u8],
-) -> Listing
-    ensures ready { Ready sets.new numbers.new comps.new vers.new facs.new impls.new }
+fn list(state: &mut State, text: &[u8], out: &mut [u8]) -> Listing
+    ensures ready { IsReady state.new }
     ensures leaves { Leaves text.now out.old out.new result.fits result.len
-        (state_of sets.new numbers.new comps.new vers.new facs.new impls.new) }
+        (plain_state state.new) }
 {
-    clear_state(sets, numbers, comps, vers, facs, impls);
+    *state = empty();
     let n = out.len();
-    let room = session_run::run(text, sets, numbers, comps, vers, facs, impls, out);
+    let room = session_run::run(text, state, out);
     if !room.fits {
-        clear_state(sets, numbers, comps, vers, facs, impls);
+        *state = empty();
         seqs::clear(out);
         return Listing {
             fits: false,
@@ -83,37 +66,13 @@ pub struct SessionEnd {
 pub fn session(text: &[u8], out: &mut [u8]) -> SessionEnd
     ensures { SessionCall text.now out.old out.new result }
 {
-    let mut sets = [0; 576];
-    let mut numbers = [0; 8768];
-    let mut comps = [0; 1056];
-    let mut vers = [0; 2112];
-    let mut facs = [0; 2112];
-    let mut impls = [0; 8448];
-    let l = list(
-        &mut sets,
-        &mut numbers,
-        &mut comps,
-        &mut vers,
-        &mut facs,
-        &mut impls,
-        text,
-        out,
-    );
-    let book = Book {
-        sets: sets,
-        numbers: numbers,
-    };
-    let names = Names {
-        comps: comps,
-        vers: vers,
-        facs: facs,
-        impls: impls,
-    };
+    let mut state = empty();
+    let l = list(&mut state, text, out);
     SessionEnd {
         answer: if l.fits { 0 } else { 22 },
         len: l.len,
-        book: book,
-        names: names,
+        book: state.book,
+        names: state.names,
     }
 }
 
@@ -136,22 +95,8 @@ pub fn svcd_session(text: &[u8], out: &mut [u8]) -> i32
         seqs::clear(out);
         return MINUS_22;
     }
-    let mut sets = [0; 576];
-    let mut numbers = [0; 8768];
-    let mut comps = [0; 1056];
-    let mut vers = [0; 2112];
-    let mut facs = [0; 2112];
-    let mut impls = [0; 8448];
-    let l = list(
-        &mut sets,
-        &mut numbers,
-        &mut comps,
-        &mut vers,
-        &mut facs,
-        &mut impls,
-        text,
-        out,
-    );
+    let mut state = empty();
+    let l = list(&mut state, text, out);
     if !l.fits {
         return MINUS_22;
     }

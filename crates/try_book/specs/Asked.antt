@@ -1,20 +1,11 @@
--- What the writers ask, from the tests made before each call.
+-- What the writer of a system asks, from the tests made before its call.
 use Rattle.std.specs.Prelude.{Bool, false, not, List, ◌≡◌, ◌<◌, ◌^◌, suc, zero, ℕ, get_or, replicate}
 use Rattle.std.proofs.Common.{◌∙◌, sym, arith}
 use Rattle.std.proofs.lemmas.Bool.{not-false}
-use Rattle.book.specs.Changes.{TakesDefinition, TakesSpec}
+use Rattle.book.specs.Changes.{TakesDefinition}
 use Rattle.book.specs.Plain.{plain_of, proper}
 use Rattle.model.specs.Book.{is_defined, is_module, is_system, specified}
 use Rattle.sets.specs.TestLaws.{or-false}
-
-pub takes_spec : {s n : List ℕ} {c : ℕ} {r q : Bool}
-    → c < 32
-    → r ≡ proper s n
-    → not r ≡ false
-    → q ≡ specified (plain_of s n).specs c
-    → q ≡ false
-    → TakesSpec s n c
-takes_spec {r = r} h e y e' z = record { component< = h; is_proper = sym e ∙ not-false r y; is_unspecified = sym e' ∙ z }
 
 pub takes_definition : {s n : List ℕ} {c : ℕ} {r q m y : Bool}
     → c < 32

@@ -2,181 +2,129 @@
 #![tactic(auto)]
 
 use book::Book;
-use std::io::Write;
+use std::io;
 
-// A write that fails is passed over.
-fn write_out(rt: &HostRuntime, text: &[u8]) {
-    let _ = rt.stdout().write_all(text);
-}
+// Components of the teaching book.
+const PROBE: usize = 0;
 
-fn write_decimal(rt: &HostRuntime, n: u64) {
-    let _ = rt.print(n);
-}
+const VALVE: usize = 1;
 
-fn say(rt: &HostRuntime, text: &[u8], n: u64) {
-    write_out(rt, text);
-    write_decimal(rt, n);
-    write_out(rt, b"\n");
-}
+const LOOP: usize = 2;
 
-fn say_row(rt: &HostRuntime, text: &[u8], row: u16) {
-    say(rt, text, row as u64);
-}
+const TANK: usize = 3;
 
-// Component c specified with the one version v, or the same Book where it can't be.
-fn spec(b: Book, c: usize, provides: u64, v: usize, required: u64) -> Book {
-    if 32 <= c {
-        return b;
+// Sets of facilities.
+const TEMP: u64 = 1;
+
+const COOL: u64 = 2;
+
+const HOLD: u64 = 4;
+
+// Component c specified with the one version v, where it can be.
+fn spec(book: &mut Book, c: usize, provides: u64, v: u8, required: u64) {
+    if 32 <= c || 64 <= v || !book.is_proper() || book.is_specified(c) {
+        return;
     }
-    if 64 <= v {
-        return b;
-    }
-    if !book::is_proper(&b.sets, &b.numbers) {
-        return b;
-    }
-    if book::is_specified(&b.sets, &b.numbers, c) {
-        return b;
-    }
-    let versions = sets::with(0, v);
+    let versions = sets::with(0, usize::from(v));
     if 8 < sets::count(versions) {
-        return b;
+        return;
     }
-    let requirements: [u64; 64] = [required; 64];
-    let mut sets = b.sets;
-    let mut numbers = b.numbers;
-    book_put::put_spec(
-        &mut sets,
-        &mut numbers,
-        c,
-        provides,
-        versions,
-        &requirements,
-        v as u8,
-    );
-    Book {
-        sets: sets,
-        numbers: numbers,
-    }
+    book_put::put_spec(book, c, provides, versions, &[required; 64], v);
 }
 
-// Component c defined as a system whose versions all have the same members, or the same Book where it can't be.
-fn system(b: Book, c: usize, members: u64, rows: &[u8; 2048]) -> Book {
-    if 32 <= c {
-        return b;
+// Component c defined as a system whose versions all have the same members, where it can be.
+fn system(book: &mut Book, c: usize, members: u64, rows: &[u8; 2048]) {
+    if 32 <= c || 4294967296 <= members || !book.is_proper() {
+        return;
     }
-    if 4294967296 <= members {
-        return b;
+    if !book.is_specified(c) || book.is_module(c) || book.is_system(c) {
+        return;
     }
-    if !book::is_proper(&b.sets, &b.numbers) {
-        return b;
-    }
-    if !book::is_specified(&b.sets, &b.numbers, c) {
-        return b;
-    }
-    if book::is_module(&b.sets, &b.numbers, c) {
-        return b;
-    }
-    if book::is_system(&b.sets, &b.numbers, c) {
-        return b;
-    }
-    let compositions: [u64; 64] = [members; 64];
-    let mut sets = b.sets;
-    let mut numbers = b.numbers;
-    book_put::put_sys(&mut sets, &mut numbers, c, members, &compositions, rows);
-    Book {
-        sets: sets,
-        numbers: numbers,
-    }
+    book_put::put_sys(book, c, members, &[members; 64], rows);
 }
 
-// probe, valve, loop and tank, as in document 01.
+// probe, valve, loop and tank, as in document 01. The one version of tank is 3: row 3 has the versions of its members.
 fn teaching() -> Book {
-    let probe = spec(book::fresh(), 0, 1, 0, 0);
-    let valve = spec(probe, 1, 2, 1, 1);
-    let loops = spec(valve, 2, 4, 2, 3);
-    let tank = spec(loops, 3, 4, 3, 0);
-    let mut rows: [u8; 2048] = [0; 2048];
-    rows[97] = 1;
-    rows[98] = 2;
-    system(tank, 3, 7, &rows)
+    let mut book = Book::fresh();
+    spec(&mut book, PROBE, TEMP, 0, 0);
+    spec(&mut book, VALVE, COOL, 1, TEMP);
+    spec(&mut book, LOOP, HOLD, 2, TEMP | COOL);
+    spec(&mut book, TANK, HOLD, 3, 0);
+    let mut rows = [0; 2048];
+    rows[3 * 32 + VALVE] = 1;
+    rows[3 * 32 + LOOP] = 2;
+    let members = 1 << PROBE | 1 << VALVE | 1 << LOOP;
+    system(&mut book, TANK, members, &rows);
+    book
 }
 
-// Four components provide a facility each and require the other three.
-fn four() -> Book {
-    let b0 = spec(book::fresh(), 0, 1, 0, 14);
-    let b1 = spec(b0, 1, 2, 0, 13);
-    let b2 = spec(b1, 2, 4, 0, 11);
-    spec(b2, 3, 8, 0, 7)
-}
-
-// Over the four, 28 systems, each made from the latest providers of the four facilities.
+// Four components provide a facility each and require the other three. Over them, 28 systems, each made from the latest providers of
+// the four facilities.
 fn deep() -> Book {
-    let rows: [u8; 2048] = [0; 2048];
-    let mut b = four();
-    let mut latest: u64 = 15;
+    let mut book = Book::fresh();
+    spec(&mut book, 0, 1, 0, 14);
+    spec(&mut book, 1, 2, 0, 13);
+    spec(&mut book, 2, 4, 0, 11);
+    spec(&mut book, 3, 8, 0, 7);
+    let mut latest = 15;
     for i in 0..28 {
-        let c = 4 + i;
-        let specified = spec(b, c, sets::with(0, i % 4), 0, 0);
-        b = system(specified, c, latest, &rows);
+        let c = i + 4;
+        spec(&mut book, c, sets::with(0, i % 4), 0, 0);
+        system(&mut book, c, latest, &[0; 2048]);
         latest = sets::without(sets::with(latest, c), i);
     }
-    b
+    book
 }
 
-// 1 where the Book is one.
-fn judged(b: Book) -> u64 {
-    if book_test::is_book(b) {
-        return 1;
-    }
-    0
+// A line with 1 where the Book is one, and else with 0.
+fn judged(rt: &HostRuntime, text: &str, b: Book) -> io::Result<()> {
+    println!(rt; "{text}, test {}", u8::from(book_test::is_book(b)))
 }
 
 // Books that are no books: tank's member probe is not there; a kind that no component has; an unspecified component made a system.
-fn damaged(rt: &HostRuntime) {
+fn damaged(rt: &HostRuntime) -> io::Result<()> {
     let mut robbed = teaching();
-    robbed.numbers[0] = 0;
-    say(rt, b"robbed of probe, test ", judged(robbed));
+    robbed.numbers[PROBE] = 0;
+    judged(rt, "robbed of probe", robbed)?;
     let mut strange = teaching();
     strange.numbers[4] = 200;
-    say(rt, b"a kind that is none, test ", judged(strange));
+    judged(rt, "a kind that is none", strange)?;
     let mut made = teaching();
     made.numbers[5] = 3;
-    say(rt, b"a system with no version, test ", judged(made));
+    judged(rt, "a system with no version", made)
 }
 
 // The rows that CHOICE of hold finds.
-fn choice(rt: &HostRuntime, b: Book) {
-    let mut rows: [u16; 3] = [0; 3];
-    let found = queries::choice(b, 4, &mut rows);
-    say(rt, b"choice of hold, rows ", found.rows as u64);
-    say_row(rt, b"the first ", rows[0]);
-    say_row(rt, b"the second ", rows[1]);
-    say_row(rt, b"past them ", rows[2]);
+fn choice(rt: &HostRuntime, b: Book) -> io::Result<()> {
+    let mut rows = [0; 3];
+    let found = queries::choice(b, HOLD, &mut rows);
+    println!(rt; "choice of hold, rows {}", found.rows)?;
+    let [first, second, past] = rows;
+    println!(rt; "the first {first}")?;
+    println!(rt; "the second {second}")?;
+    println!(rt; "past them {past}")
 }
 
 // The queries, of a component and of the whole book; sets as numbers.
-fn queries_of(rt: &HostRuntime, b: Book) {
-    let supplied = queries::supplies(b, 3);
-    say(rt, b"supplies of tank ", supplied.set);
-    let needed = queries::needs(b, 3, 3);
-    say(rt, b"needs of tank.a ", needed.set);
-    let standard = queries::standard(b, 2);
-    say(rt, b"standard of loop ", standard.version as u64);
-    let undefined = queries::undefined(b);
-    say(rt, b"undefined ", undefined.set);
-    let unused = queries::unused(b);
-    say(rt, b"unused ", unused.set);
-    let users = queries::whereused(b, 0);
-    say(rt, b"whereused of probe ", users.set);
-    choice(rt, b);
+fn queries_of(rt: &HostRuntime, b: Book) -> io::Result<()> {
+    println!(rt; "supplies of tank {}", queries::supplies(b, TANK).set)?;
+    println!(rt; "needs of tank.a {}", queries::needs(b, TANK, 3).set)?;
+    println!(rt; "standard of loop {}", queries::standard(b, LOOP).version)?;
+    println!(rt; "undefined {}", queries::undefined(b).set)?;
+    println!(rt; "unused {}", queries::unused(b).set)?;
+    println!(rt; "whereused of probe {}", queries::whereused(b, PROBE).set)?;
+    choice(rt, b)
 }
 
-fn main(rt: HostRuntime) {
-    say(&rt, b"empty book, test ", judged(book::fresh()));
-    say(&rt, b"teaching book, test ", judged(teaching()));
-    queries_of(&rt, teaching());
-    say(&rt, b"deep book, test ", judged(deep()));
-    let needed = queries::needs(deep(), 31, 0);
-    say(&rt, b"deep book, needs of the last system ", needed.set);
-    damaged(&rt);
+fn main(rt: HostRuntime) -> io::Result<()> {
+    judged(&rt, "empty book", Book::fresh())?;
+    judged(&rt, "teaching book", teaching())?;
+    queries_of(&rt, teaching())?;
+    let b = deep();
+    judged(&rt, "deep book", b)?;
+    println!(rt;
+        "deep book, needs of the last system {}",
+        queries::needs(b, 31, 0).set
+    )?;
+    damaged(&rt)
 }

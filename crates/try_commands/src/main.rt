@@ -438,7 +438,7 @@ fn do_line(rt: &HostRuntime, books: Books, line: &[u8]) -> Books {
 }
 
 fn do_lines(rt: &HostRuntime, input: &[u8]) {
-    let fresh = book::fresh();
+    let fresh = Book::fresh();
     let mut books = Books {
         book: fresh,
         first: fresh,

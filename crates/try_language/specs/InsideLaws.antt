@@ -1,11 +1,10 @@
 -- A command that was read ends within the text.
-use Rattle.std.specs.Prelude.{Bool, false, true, not as notᵇ, ◌≡◌, ◌*◌, ◌-◌, ◌<◌, ◌≤◌, ℕ, length, replicate}
-use Rattle.std.proofs.Common.{◌∙◌, ap, sym, arith}
+use Rattle.std.specs.Prelude.{Bool, false, true, not as notᵇ, ◌≡◌, ◌*◌, ◌≤◌, ℕ, length, replicate}
+use Rattle.std.proofs.Common.{◌∙◌, ap, arith}
 use Rattle.std.proofs.lemmas.Bool.{not-false}
 use Rattle.std.proofs.lemmas.List.{length-replicate}
 use Rattle.model.specs.Lists.{every, non_empty}
 use Rattle.names.specs.StoredLaws.{zeros_empty}
-use Rattle.sets.specs.TestLaws.{clash}
 use Rattle.text_laws.specs.TextLaws.{every-none}
 use Rattle.read_tokens.specs.Entering.{Kept}
 use Rattle.text.specs.Bytes.{Text}
@@ -21,21 +20,6 @@ read_inside p R t at e there r = record { is = λ y. (r.yes y).inside }
 
 pub here_inside : (t : Text) (there : Bool) (e : ℕ) → e ≤ length t → Inside t there e
 here_inside t there e h = record { is = λ y. h }
-
-pub none_inside : (t : Text) (there : Bool) (e at : ℕ) → (there ≡ false) × (e ≡ at) → Inside t there e
-none_inside t there e at h = record { is = λ y. clash y h.0 }
-
-pub told_inside : (t : Text) (there there' : Bool) (e e' : ℕ) → Inside t there e → (there' ≡ there) × (e' ≡ e) → Inside t there' e'
-told_inside t there there' e e' i h = record { is = λ y. (let l = i.is (sym h.0 ∙ y) in let q = h.1 in omega arith) }
-
-pub none_told : (t : Text) (there there' : Bool) (e e' at : ℕ) → (there ≡ false) × (e ≡ at) → (there' ≡ there) × (e' ≡ e) → Inside t there' e'
-none_told t there there' e e' at n h = told_inside t there there' e e' (none_inside t there e at n) h
-
-pub inside_there : (t : Text) (there : Bool) (e : ℕ) → Inside t there e → notᵇ there ≡ false → e ≤ length t
-inside_there t there e i n = i.is (not-false there n)
-
-pub less_left : (t : Text) (there : Bool) (at e : ℕ) → Inside t there e → notᵇ there ≡ false → at < e → length t - e < length t - at
-less_left t there at e i n l = let h = inside_there t there e i n in omega (arith, h, l)
 
 span_within : (t : Text) (a e : ℕ) → Span t a e → (a ≤ e) × (e ≤ length t)
 span_within t a e s = let h = s.some_bytes in (omega (arith, h), s.inside)

@@ -1,5 +1,4 @@
 pub mod Reading
-pub mod ByteLaws
 pub mod SkipLaws
 pub mod RunLaws
 pub mod TokenLaws

@@ -1,13 +1,13 @@
 -- A word is a name, or an implementation: a law for each way out of the code.
-use Rattle.std.specs.Prelude.{Bool, ◌&&◌, not, List, [], ◌∷◌, ◌≡◌, refl, ◌<◌, ◌≤◌, suc, ℕ, eqb, leb, ltb, drop, get_or, length}
+use Rattle.std.specs.Prelude.{Bool, not, List, [], ◌∷◌, ◌≡◌, ◌≢◌, refl, ◌<◌, ◌≤◌, suc, ℕ, eqb, leb, drop, get_or, length}
 use Rattle.std.proofs.Math.Bool.{false, true}
-use Rattle.std.proofs.Common.{inl, inr, ◌∙◌, ap₂, arith, lt-ltb, drop_of_length-le, length-drop}
+use Rattle.std.proofs.Common.{inl, inr, ◌∙◌, arith, drop_of_length-le, length-drop}
 use Rattle.std.proofs.Math.Option.{Option, none, some}
 use Rattle.std.proofs.Math.Path.{ap, sym}
 use Rattle.std.proofs.lemmas.Bool.{not-true}
 use Rattle.model.specs.Lists.{every, non_empty}
 use Rattle.model.specs.Maps.{is_some}
-use Rattle.sets.specs.TestLaws.{=?-in, =?-out, and-false, and_in, and_l, and_r, bool?, clash, fails, if-true, iff→≡}
+use Rattle.sets.specs.TestLaws.{=?-in, =?-not, =?-out, and-false, and-true, and_in, and_l, and_r, bool?, clash, fails, if-true, iff→≡}
 use Rattle.sets.specs.TestLaws.{not_in, not_out, ≤?_in, ≤?_out}
 use Rattle.sets.specs.Sets.{bit}
 use Rattle.sets.specs.Tests.{◌&◌, ◌=?◌, ◌≤?◌, if?◌then◌else◌}
@@ -17,10 +17,13 @@ use Rattle.text.specs.Tables.{Table, name_at, place}
 use Rattle.text.specs.Tokens.{past}
 use Rattle.text_laws.specs.Places.{place-among, place_there}
 use Rattle.text_laws.specs.TextLaws.{every-among}
-use Rattle.names.specs.declared.Found.{Found}
-use Rattle.names.specs.declared.Found.TheVariants.{At, Nothing}
-use Rattle.names.specs.Stored.{answered, name_in, table_of}
+use Rattle.std.specs.Prelude.{Option as Found}
+use Rattle.std.specs.Prelude.{None, Some}
+use Rattle.names.specs.Stored.{name_in, table_of}
+use Rattle.sets.specs.Answered.{answered}
 use Rattle.names.specs.UpToLastLaws.{last_at}
+use Rattle.std.specs.Option.{is_some as found}
+use Rattle.words.specs.TokenLaws.{short_in}
 use Rattle.words.specs.Reading.{RunsTo, in_run, keyword_hashes, hash_of}
 
 -- ---- keywords
@@ -36,7 +39,7 @@ keywords_hashed : every (λ w. bit keyword_hashes (hash_of w)) keywords ≡ true
 unfolding every bit hash_of keywords bytes ◌&◌ ◌=?◌
 keywords_hashed = refl
 
-pub hash_none : (w : Text) (r : Bool) → r ≡ bit keyword_hashes (hash_of w) → not r ≡ true → answered Nothing ≡ place keywords w
+pub hash_none : (w : Text) (r : Bool) → r ≡ bit keyword_hashes (hash_of w) → not r ≡ true → answered None ≡ place keywords w
 unfolding answered
 hash_none w r e n = by (place keywords w) refl
   where
@@ -47,22 +50,31 @@ hash_none w r e n = by (place keywords w) refl
 
 -- ---- a word that was read
 
-pub word_long : (w : Text) → 32 < length w → false ≡ name_word w
-unfolding name_word
-word_long w h = sym (and-false _ _ (fails _ (λ t. absurd (let q = ≤?_out _ _ t in omega arith))))
+pub word_long : (w : Text) → 32 < length w → leb (length w) 32 ≡ name_word w
+unfolding name_word ◌≤?◌
+word_long w h =
+    let q : (length w ≤? 32) ≡ false = fails _ (λ t. absurd (let l = ≤?_out _ _ t in omega arith)) in
+    q ∙ sym (and-false _ _ q)
 
-module _ (w : Text) (k : Found) (f : answered k ≡ place keywords w) where
-  pub word_name : length w ≤ 32 → k ≡ Nothing → true ≡ name_word w
+module _ (w : Text) (k : Found ℕ) (f : answered k ≡ place keywords w) where
+  word_name : length w ≤ 32 → k ≡ None → true ≡ name_word w
   unfolding name_word answered is_some
   word_name h e =
       let no : among w keywords ≡ false = fails _ (λ t. clash (place_there keywords w t) (ap is_some (sym f ∙ ap answered e))) in
       sym (and_in _ _ (≤?_in _ _ h) (not_in _ no))
 
-  pub word_keyword : (j : ℕ) → k ≡ At j → false ≡ name_word w
+  word_keyword : (j : ℕ) → k ≡ Some j → false ≡ name_word w
   unfolding name_word answered
   word_keyword j e =
       let yes : among w keywords ≡ true = place-among keywords w j (sym f ∙ ap answered e) in
       sym (fails _ (λ t. clash yes (not_out _ (and_r _ _ t))))
+
+pub word_unless : (w : Text) (k : Found ℕ) → answered k ≡ place keywords w → length w ≤ 32 → (r : Bool) → found k ≡ not r
+    → r ≡ name_word w
+word_unless w None f h true e = word_name w None f h refl
+word_unless w None f h false e = clash e refl
+word_unless w (Some j) f h true e = clash refl e
+word_unless w (Some j) f h false e = word_keyword w (Some j) f j refl
 
 -- ---- all of a text is one run
 
@@ -92,16 +104,38 @@ unfolding valid_name
 name_empty [] h = refl
 name_empty (c ∷ cs) h = absurd (omega arith)
 
-pub name_is : (w : Text) (p n : Bool) (e : ℕ) → (length w ≡ 0 → ⊥) → p ≡ alnum (get_or w 0 0) → RunsTo (in_run false) w 1 e
-    → n ≡ name_word w → (p && (eqb e (length w) && n)) ≡ valid_name w
-unfolding valid_name in_run ◌&◌ ◌=?◌
-name_is [] p n e h a s q = absurd (h refl)
-name_is (c ∷ cs) p n e h a s q = ap₂ ◌&◌ a (ap₂ ◌&◌ (run-every name_byte (c ∷ cs) 1 e s) q)
+pub name_none : (w : Text) (p : Bool) → p ≡ alnum (get_or w 0 0) → p ≡ false → false ≡ valid_name w
+unfolding valid_name
+name_none [] p a n = refl
+name_none (c ∷ cs) p a n = sym (and-false _ _ (sym a ∙ n))
 
-pub implementation_is : (w : Text) (e : ℕ) → RunsTo (in_run true) w 0 e
-    → ((ltb 0 (length w) && leb (length w) 32) && eqb e (length w)) ≡ valid_implementation w
-unfolding valid_implementation short non_empty in_run ◌&◌ ◌=?◌ ◌≤?◌
-implementation_is [] e s = refl
-implementation_is (c ∷ cs) e s =
-    ap (λ (b : Bool). (b && leb (length (c ∷ cs)) 32) && eqb e (length (c ∷ cs))) (lt-ltb 0 (length (c ∷ cs)) (omega arith))
-    ∙ ap (λ (b : Bool). leb (length (c ∷ cs)) 32 && b) (run-every impl_byte (c ∷ cs) 0 e s)
+-- a word that begins with a letter or a digit
+rest_is : (w : Text) (p : Bool) → p ≡ alnum (get_or w 0 0) → p ≡ true → (length w ≡ 0 → ⊥) → (e : ℕ) → RunsTo (in_run false) w 1 e
+    → ((e =? length w) & name_word w) ≡ valid_name w
+unfolding valid_name in_run
+rest_is [] p a y h e s = absurd (h refl)
+rest_is (c ∷ cs) p a y h e s =
+    sym (and-true _ _ (sym a ∙ y)) ∙ ap (λ (b : Bool). alnum c & (b & name_word (c ∷ cs))) (run-every name_byte (c ∷ cs) 1 e s)
+
+module _ (w : Text) (p : Bool) (a : p ≡ alnum (get_or w 0 0)) (y : p ≡ true) (h : length w ≡ 0 → ⊥) (e : ℕ)
+    (s : RunsTo (in_run false) w 1 e) where
+  pub name_is : (n : Bool) → n ≡ name_word w → e ≡ length w → n ≡ valid_name w
+  name_is n q z = q ∙ sym (and-true _ _ (=?-in e _ z)) ∙ rest_is w p a y h e s
+
+  pub name_cut : e ≢ length w → eqb e (length w) ≡ valid_name w
+  unfolding ◌=?◌
+  name_cut d = let q = =?-not e _ d in q ∙ sym (and-false _ _ q) ∙ rest_is w p a y h e s
+
+pub implementation_empty : (w : Text) → length w ≡ 0 → false ≡ valid_implementation w
+unfolding valid_implementation short non_empty ◌&◌
+implementation_empty [] e = refl
+implementation_empty (c ∷ cs) e = absurd (omega arith)
+
+pub implementation_long : (w : Text) → 32 < length w → false ≡ valid_implementation w
+unfolding valid_implementation short
+implementation_long w h = sym (and-false _ _ (fails _ (λ t. absurd (let l = ≤?_out _ _ (and_r _ _ t) in omega arith))))
+
+pub implementation_is : (w : Text) (e : ℕ) → (length w ≡ 0 → ⊥) → length w ≤ 32 → RunsTo (in_run true) w 0 e
+    → eqb e (length w) ≡ valid_implementation w
+unfolding valid_implementation in_run ◌=?◌
+implementation_is w e n h s = run-every impl_byte w 0 e s ∙ sym (and-true _ _ (short_in w (omega arith) h))

@@ -1,44 +1,36 @@
--- A run of bytes that pass a test, followed a byte at a time; and the run as a part of the text.
-use Rattle.std.specs.Prelude.{Bool, false, true, [], ◌∷◌, ◌≡◌, refl, ◌+◌, ◌-◌, ◌<◌, ◌≤◌, suc, ℕ, drop, get_or, length, take}
-use Rattle.std.proofs.Common.{inl, inr, ◌∙◌, ap, le_refl, add-one, arith, drop_of_length-le, length-drop, drop-cons}
+-- A run of bytes that pass a test, by how many they are; and the run as a part of the text.
+use Rattle.std.specs.Prelude.{Bool, [], ◌∷◌, ◌≡◌, refl, ◌+◌, ◌-◌, ◌≤◌, suc, ℕ, drop, length, take}
+use Rattle.std.proofs.Common.{inl, inr, ◌∙◌, ap, le_refl, arith, length-drop, drop-drop, take_all}
 use Rattle.std.proofs.Math.Path.{sym}
-use Rattle.sets.specs.TestLaws.{bool?, if-false, if-true}
+use Rattle.std.specs.List.{prefix_len}
+use Rattle.std.proofs.lemmas.List.Sums.{prefix_len-le-length}
+use Rattle.sets.specs.TestLaws.{bool?}
 use Rattle.sets.specs.Tests.{if?◌then◌else◌}
 use Rattle.text.specs.Bytes.{Text}
 use Rattle.text.specs.Tokens.{past, run}
 use Rattle.words.specs.Reading.{RunsTo, part}
 
--- from `at` on all bytes pass the test f up to position i
-pub record Running (f : ℕ → Bool) (t : Text) (at i : ℕ) : Type 0 where
-  pub is : past f (drop at t) ≡ past f (drop i t)
-  pub from : at ≤ i
-  pub inside : i ≤ length t
+past_prefix : (f : ℕ → Bool) (u : Text) → past f u ≡ drop (prefix_len f u) u
+unfolding past if?◌then◌else◌
+past_prefix f [] = refl
+past_prefix f (c ∷ cs) =
+    elim (bool? (f c)) [
+      | inl e ↦ rw e (let z : suc (prefix_len f cs) ≡ 1 + prefix_len f cs = omega arith in
+          past_prefix f cs ∙ ap (λ (n : ℕ). drop n (c ∷ cs)) z)
+      | inr e ↦ rw e refl
+    ]
 
-pub run_start : (f : ℕ → Bool) (t : Text) (at : ℕ) → at ≤ length t → Running f t at at
-run_start f t at h = record { is = refl; from = le_refl at; inside = h }
-
-on : (f : ℕ → Bool) (t : Text) (i : ℕ) → i < length t → f (get_or t i 0) ≡ true → past f (drop i t) ≡ past f (drop (i + 1) t)
-unfolding past
-on f t i h e = rw (drop-cons t i 0 h, add-one i) (if-true _ _ _ e)
-
-stop : (f : ℕ → Bool) (t : Text) (i : ℕ) → i < length t → f (get_or t i 0) ≡ false → past f (drop i t) ≡ drop i t
-unfolding past
-stop f t i h e = rw (drop-cons t i 0 h) (if-false _ _ _ e)
-
-module _ (f : ℕ → Bool) (t : Text) (at i : ℕ) (s : Running f t at i) where
-  pub run_turn : (p : Bool) → i < length t → p ≡ f (get_or t i 0) → p ≡ true → Running f t at (i + 1)
-  run_turn p h q e = record {
-    is = s.is ∙ on f t i h (sym q ∙ e);
-    from = (let l = s.from in omega arith);
-    inside = omega arith;
-  }
-
-  pub run_stop : (p : Bool) → i < length t → p ≡ f (get_or t i 0) → p ≡ false → RunsTo f t at i
-  run_stop p h q e = record { is = sym (s.is ∙ stop f t i h (sym q ∙ e)); from = s.from; inside = s.inside }
-
-  pub run_over : length t ≤ i → RunsTo f t at i
-  unfolding past
-  run_over h = record { is = sym (s.is ∙ rw (drop_of_length-le t h)); from = s.from; inside = s.inside }
+-- n bytes from `at` on pass the test f, of those up to the end of the text
+pub run_counted : (f : ℕ → Bool) (t : Text) (at n : ℕ) → at ≤ length t → n ≡ prefix_len f (take (length t - at) (drop at t))
+    → RunsTo f t at (at + n)
+run_counted f t at n h e =
+    let all : take (length t - at) (drop at t) ≡ drop at t = take_all _ (drop at t) (let m = length-drop at t in omega arith) in
+    let q : n ≡ prefix_len f (drop at t) = e ∙ ap (prefix_len f) all in
+    record {
+      is = sym (past_prefix f (drop at t) ∙ ap (λ (m : ℕ). drop m (drop at t)) (sym q) ∙ drop-drop n at t);
+      from = omega arith;
+      inside = (let l = prefix_len-le-length f (drop at t) in let m = length-drop at t in omega arith);
+    }
 
 past_le : (f : ℕ → Bool) (u : Text) → length (past f u) ≤ length u
 unfolding past if?◌then◌else◌

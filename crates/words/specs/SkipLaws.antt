@@ -42,9 +42,12 @@ module _ (t : Text) (at i : ℕ) (b : Bool) (s : Skipping t at i b) where
   pub skip_stop : (p : Bool) → i < length t → p ≡ passes b (get_or t i 0) → p ≡ false → Skips t at (To i)
   skip_stop p h q e = record { is = sym (s.is ∙ stop t i b h (sym q ∙ e)); within = (s.from, s.below) }
 
-  pub skip_end : length t ≤ i → b ≡ false → Skips t at (To i)
+  pub skip_end : length t ≤ i → b ≡ false → Skips t at (To (length t))
   unfolding skip rest_from
-  skip_end h e = record { is = sym (s.is ∙ rw (e, drop_of_length-le t h)); within = (s.from, s.below) }
+  skip_end h e = record {
+    is = sym (s.is ∙ rw (e, drop_of_length-le t h, drop_of_length-le t (le_refl (length t))));
+    within = (let f = s.from in let l = s.below in omega arith, le_refl (length t));
+  }
 
   pub skip_open : length t ≤ i → b ≡ true → Skips t at Open
   unfolding skip rest_from

@@ -9,7 +9,7 @@ ghost use Rattle.text.specs.Tables.{name_at, place};
 ghost use Rattle.text.specs.Tokens.{token_at, next_token};
 ghost use Rattle.words.specs.Keywords.{keyword_count};
 ghost use Rattle.words.specs.Reading.{passes, stays_open, in_run, Skips, RunsTo, quoted_from, word_at, Reads, keyword_hashes, hash_of};
-ghost use Rattle.names.specs.Stored.{answered};
+ghost use Rattle.sets.specs.Answered.{answered};
 
 // Where the next token or the end of the text stands; or a comment is left open.
 #[derive(Clone, Copy)]
@@ -34,26 +34,26 @@ pub enum Token {
 pub fn is_white(c: u8) -> bool
     ensures { result ≡ white c }
 {
-    (c == 32) | ((c == 9) | ((c == 13) | (c == 10)))
+    matches!(c, b' ' | b'\t' | b'\r' | b'\n')
 }
 
 pub fn is_alnum(c: u8) -> bool
     ensures { result ≡ alnum c }
 {
-    ((97 <= c) & (c <= 122)) | (((65 <= c) & (c <= 90)) | ((48 <= c) & (c <= 57)))
+    c.is_ascii_alphanumeric()
 }
 
 pub fn is_mark(c: u8) -> bool
     ensures { result ≡ is_mark c }
 {
-    (c == 59) | ((c == 44) | ((c == 46) | (c == 61)))
+    matches!(c, b';' | b',' | b'.' | b'=')
 }
 
 // A byte of an implementation (`quoted`) or of a name.
 pub fn is_in_run(quoted: bool, c: u8) -> bool
     ensures { result ≡ in_run quoted c }
 {
-    (is_alnum(c) | ((c == 45) | (c == 95))) | (quoted & ((c == 46) | (c == 47)))
+    is_alnum(c) || matches!(c, b'-' | b'_') || quoted && matches!(c, b'.' | b'/')
 }
 
 // ---- white space and comments
@@ -62,35 +62,32 @@ pub fn is_in_run(quoted: bool, c: u8) -> bool
 fn does_pass(inside: bool, c: u8) -> bool
     ensures { result ≡ passes inside c }
 {
-    inside | (is_white(c) | (c == 123))
+    inside || is_white(c) || c == b'{'
 }
 
 // Whether a comment is open after c.
 fn stays_open(inside: bool, c: u8) -> bool
     ensures { result ≡ stays_open inside c }
 {
-    (inside & !(c == 125)) | (!inside & (c == 123))
+    if inside { c != b'}' } else { c == b'{' }
 }
 
 pub fn next_start(text: &[u8], at: usize) -> Skipped
     requires { at ≤ length text.now }
     ensures { Skips text.now at result }
 {
-    let mut i = at;
     let mut inside = false;
-    while i < text.len() {
+    for i in at..text.len() {
         let c = text[i];
-        if does_pass(inside, c) {
-            inside = stays_open(inside, c);
-            i += 1;
-        } else {
+        if !does_pass(inside, c) {
             return Skipped::To(i);
         }
+        inside = stays_open(inside, c);
     }
     if inside {
         Skipped::Open
     } else {
-        Skipped::To(i)
+        Skipped::To(text.len())
     }
 }
 
@@ -101,15 +98,10 @@ pub fn run_end(text: &[u8], at: usize, quoted: bool) -> usize
     requires { at ≤ length text.now }
     ensures { RunsTo (in_run quoted) text.now at result }
 {
-    let mut i = at;
-    while i < text.len() {
-        if is_in_run(quoted, text[i]) {
-            i += 1;
-        } else {
-            return i;
-        }
-    }
-    i
+    at + text[at..]
+        .iter()
+        .take_while(|&&c| is_in_run(quoted, c))
+        .count()
 }
 
 // The implementation whose opening quote stands before `at`.
@@ -118,19 +110,11 @@ fn quoted_at(text: &[u8], at: usize) -> Token
     ensures { Reads text.now at (quoted_from (drop at text.now)) result }
 {
     let end = run_end(text, at, true);
-    if text.len() <= end {
-        return Token::Bad;
+    if end < text.len() && text[end] == b'"' && at < end && end - at <= 32 {
+        Token::Quoted(at, end)
+    } else {
+        Token::Bad
     }
-    if text[end] != 34 {
-        return Token::Bad;
-    }
-    if end <= at {
-        return Token::Bad;
-    }
-    if 32 < end - at {
-        return Token::Bad;
-    }
-    Token::Quoted(at, end)
 }
 
 // The token whose first byte stands at `at`.
@@ -145,7 +129,7 @@ fn token_at(text: &[u8], at: usize) -> Token
     if is_mark(c) {
         return Token::Mark(c, at + 1);
     }
-    if c == 34 {
+    if c == b'"' {
         return quoted_at(text, at + 1);
     }
     Token::Bad
@@ -171,14 +155,11 @@ fn word_end(text: &[u8], at: usize) -> usize
     requires { at ≤ length text.now }
     ensures { result ≡ at + length (word_at (drop at text.now)) }
 {
-    if text.len() <= at {
-        return at;
+    if at < text.len() && is_alnum(text[at]) {
+        run_end(text, at + 1, false)
+    } else {
+        at
     }
-    let first = text[at];
-    if is_alnum(first) {
-        return run_end(text, at + 1, false);
-    }
-    at
 }
 
 // The word that begins at `at`, empty where none does: "A word that was read is the part of the text itself, no copy."
@@ -238,29 +219,23 @@ const KEYWORDS: [u8; 33 * KEYWORD_COUNT] = *b"\
 // The hashes of the keywords, as a set of numbers below 64.
 const KEYWORD_HASHES: u64 = 8360950420800018440;
 
-fn wide(x: u8) -> usize
-    ensures { result ≡ x }
-{
-    x as usize
-}
-
 // Whether a word has the hash of a keyword. Most names have not, and need no lookup.
 fn may_be_keyword(word: &[u8]) -> bool
     requires { short word.now ≡ true }
     ensures { result ≡ bit keyword_hashes (hash_of word.now) }
 {
     let last = word.len() - 1;
-    let hash = (wide(word[last]) + 8 * word.len()) % 64;
+    let hash = (usize::from(word[last]) + 8 * word.len()) % 64;
     sets::member(KEYWORD_HASHES, hash)
 }
 
 // The number of the keyword that a word is, if it is one.
-pub fn keyword_of(word: &[u8]) -> names::Found
+pub fn keyword_of(word: &[u8]) -> Option<usize>
     requires { short word.now ≡ true }
     ensures { answered result ≡ place keywords word.now }
 {
     if !may_be_keyword(word) {
-        return names::Found::Nothing;
+        return None;
     }
     names::lookup(&KEYWORDS, KEYWORD_COUNT, word)
 }
@@ -279,26 +254,23 @@ pub fn is_name_word(word: &[u8]) -> bool
     requires { 0 < length word.now }
     ensures { result ≡ name_word word.now }
 {
-    if 32 < word.len() {
-        return false;
-    }
-    let names::Found::At(_) = keyword_of(word) else {
-        return true;
-    };
-    false
+    word.len() <= 32 && keyword_of(word).is_none()
 }
 
 pub fn is_valid_name(word: &[u8]) -> bool
     ensures { result ≡ valid_name word.now }
 {
-    if word.len() == 0 {
+    if word.is_empty() || !is_alnum(word[0]) {
         return false;
     }
-    is_alnum(word[0]) & ((run_end(word, 1, false) == word.len()) & is_name_word(word))
+    run_end(word, 1, false) == word.len() && is_name_word(word)
 }
 
 pub fn is_valid_implementation(word: &[u8]) -> bool
     ensures { result ≡ valid_implementation word.now }
 {
-    ((0 < word.len()) & (word.len() <= 32)) & (run_end(word, 0, true) == word.len())
+    if word.is_empty() || 32 < word.len() {
+        return false;
+    }
+    run_end(word, 0, true) == word.len()
 }

@@ -2,19 +2,18 @@
 use Rattle.std.specs.Prelude.{Bool, false, ◌⊎◌, ◌≡◌, refl, length}
 use Rattle.std.proofs.Math.Bool.{true}
 use mathlib.Core.List.{List, [], ◌∷◌, map}
-use Rattle.std.proofs.Common.{inl, inr, ◌∙◌, subst}
-use Rattle.std.proofs.Math.Option.{Option, some-injective, none, some}
+use Rattle.std.proofs.Common.{inl, inr, ◌∙◌}
+use Rattle.std.proofs.Math.Option.{some-injective, none, some}
 use Rattle.std.proofs.Math.Path.{ap, ap₂, fun_ext, sym}
 use Prim.Native.Nat.{◌+◌, ◌-◌, ◌<◌, ◌≤◌, suc, ℕ}
 use native.Mathlib.Omega.{arith}
 use Rattle.model.specs.Book.{Systems, components, is_system, usable}
 use Rattle.model.specs.Lists.{elem}
-use Rattle.model.specs.Maps.{or_else}
 use Rattle.sets.specs.Sets.{Set, below, bit, disjoint, minus, with, without}
 use Rattle.sets.specs.SetLaws.{bit_zero}
 use Rattle.sets.specs.TestLaws.{<?_in, <?_out, all_same, all_width, and_in, and_l, and_r, bool?, clash, fails, if-false, if-true, iff→≡}
 use Rattle.sets.specs.TestLaws.{imp_in, imp_out, not_in, not_out, or_l, or_r, =?-in}
-use Rattle.sets.specs.Tests.{◌&◌, ◌<?◌, ◌=?◌, ◌⇒◌, ~◌}
+use Rattle.sets.specs.Tests.{◌&◌, ◌<?◌, ◌⇒◌, ~◌}
 use Rattle.text.specs.Bytes.{Text}
 use Rattle.text.specs.Tables.{Table, joined}
 use Rattle.text.specs.Written.{by_name, first_of, ready, systems_from}
@@ -60,28 +59,25 @@ module _ (Y : Systems) (s : ℕ) (done : Set) {systems left u : Set} (sys : syst
 
 -- ---- the next system
 
-module _ (Y : Systems) (t : Table) (out s : Set) {k : ℕ} (e : k ≡ first_by_name t components s) (h : k < components) where
+module _ (Y : Systems) (t : Table) (out s : Set) {k : ℕ} (e : first_by_name t components s ≡ some k) where
   -- it is found
   pub next_found : {r : Bool} (s₀ : Set) → r ≡ is_next Y out k → r ≡ true
       → first_of (is_next Y out) (by_name t components s₀) ≡ first_of (is_next Y out) (by_name t components s)
-      → k ≡ next_system Y t s₀ out
-  unfolding next_system first_of or_else
+      → some k ≡ next_system Y t s₀ out
+  unfolding next_system first_of
   next_found s₀ f g q =
-      sym (ap (λ (o : Option ℕ). or_else o components) (q ∙ ap (first_of (is_next Y out)) (next_is t components k s (without s k) e h refl)
-      ∙ if-true _ _ _ (sym f ∙ g)))
+      sym (q ∙ ap (first_of (is_next Y out)) (next_is t components k s (without s k) e refl) ∙ if-true _ _ _ (sym f ∙ g))
 
   pub next_not : {r : Bool} {s' : Set} → r ≡ is_next Y out k → r ≡ false → s' ≡ without s k
       → first_of (is_next Y out) (by_name t components s) ≡ first_of (is_next Y out) (by_name t components s')
   unfolding first_of
-  next_not {s' = s'} f g d = ap (first_of (is_next Y out)) (next_is t components k s s' e h d) ∙ if-false _ _ _ (sym f ∙ g)
+  next_not {s' = s'} f g d = ap (first_of (is_next Y out)) (next_is t components k s s' e d) ∙ if-false _ _ _ (sym f ∙ g)
 
-pub next_none : (Y : Systems) (t : Table) (out s s₀ : Set) {k : ℕ} → k ≡ first_by_name t components s → components ≤ k
+pub next_none : (Y : Systems) (t : Table) (out s s₀ : Set) → first_by_name t components s ≡ none
     → first_of (is_next Y out) (by_name t components s₀) ≡ first_of (is_next Y out) (by_name t components s)
-    → components ≡ next_system Y t s₀ out
-unfolding next_system first_of or_else
-next_none Y t out s s₀ e h q =
-    sym (ap (λ (o : Option ℕ). or_else o components)
-    (q ∙ ap (first_of (is_next Y out)) (first_none t components s (subst (λ (m : ℕ). components ≤ m) e h))))
+    → none ≡ next_system Y t s₀ out
+unfolding next_system first_of
+next_none Y t out s s₀ e q = sym (q ∙ ap (first_of (is_next Y out)) (first_none t components s e))
 
 -- ---- one after another
 
@@ -92,6 +88,10 @@ first_elem test (y ∷ ys) x e = elim (bool? (test y)) [
   | inl q ↦ or_l _ _ (=?-in _ _ (sym (some-injective _ _ (sym (if-true _ _ _ q) ∙ e))))
   | inr q ↦ or_r _ _ (first_elem test ys x (sym (if-false _ _ _ q) ∙ e))
 ]
+
+pub next_below : (Y : Systems) (t : Table) (s out : Set) (k : ℕ) → next_system Y t s out ≡ some k → k < components
+unfolding next_system
+next_below Y t s out k e = listed_below t components s k (first_elem _ _ k e)
 
 -- i systems are out, which are the set d
 pub record InOrder (w : Text) (f : ℕ → Text) (Y : Systems) (t : Table) (i : ℕ) (d : Set) (p q : Room) (a c : List ℕ) : Type 0 where
@@ -115,49 +115,30 @@ module _ {w : Text} {f : ℕ → Text} {Y : Systems} {t : Table} {i : ℕ} {d : 
       partly_end (partly_as (ap (λ (n : ℕ). joined (map f (systems_from n Y (by_name t components (is_system Y)) g.out)))
       (let z : 32 - i ≡ 0 = omega arith in z)) g.part)
 
-  module _ (systems : Set) (sys : systems ≡ below components (is_system Y)) {k : ℕ} (e : k ≡ next_system Y t systems d) where
-    abbrev found : Option ℕ
-    found = first_of (λ s. ~ elem s g.out & ready Y g.out s) (by_name t components (is_system Y))
-
+  module _ (systems : Set) (sys : systems ≡ below components (is_system Y)) where
     -- what the code asks is what the definition asks
-    same_found : first_of (is_next Y d) (by_name t components systems) ≡ found
-    unfolding is_next ready
+    same_found : next_system Y t systems d ≡ first_of (λ s. ~ elem s g.out & ready Y g.out s) (by_name t components (is_system Y))
+    unfolding is_next ready next_system
     same_found =
         ap₂ (λ (o : Set) (l : List ℕ). first_of (is_next Y o) l) g.is
         (ap (by_name t components) sys ∙ below_same t components (is_system Y))
 
-    is_found : (o : Option ℕ) → found ≡ o → k ≡ or_else o components
-    unfolding next_system
-    is_found o z = e ∙ ap (λ (r : Option ℕ). or_else r components) (same_found ∙ z)
+    more : i < 32 → 32 - i ≡ suc (32 - (i + 1))
+    more l = omega arith
 
-    pub order_stop : i < 32 → components ≤ k → Puts w p q a c
+    pub order_stop : i < 32 → next_system Y t systems d ≡ none → Puts w p q a c
     unfolding joined
     order_stop l h =
-        partly_end (partly_as (ap (λ (m : List ℕ). joined (map f m)) (ap (λ (n : ℕ). systems_from n Y (by_name t components (is_system Y)) g.out) more
-        ∙ from-none _ Y _ g.out (by found refl))) g.part)
-      where
-        more : 32 - i ≡ suc (32 - (i + 1))
-        more = omega arith
+        partly_end (partly_as (ap (λ (m : List ℕ). joined (map f m)) (ap (λ (n : ℕ). systems_from n Y (by_name t components (is_system Y)) g.out)
+        (more l) ∙ from-none _ Y _ g.out (sym same_found ∙ h))) g.part)
 
-        by : (o : Option ℕ) → found ≡ o → found ≡ none
-        by none z = z
-        by (some x) z =
-            let y : k ≡ x = unfold or_else in is_found (some x) z in
-            let b = listed_below t components (is_system Y) x (first_elem _ _ x z) in absurd (omega arith)
-
-    pub order_turn : i < 32 → k < components → {r : Room} {c' : List ℕ} {d' : Set} → Puts (f k) q r c c' → d' ≡ with d k
-        → InOrder w f Y t (i + 1) d' p r a c'
+    pub order_turn : i < 32 → {k : ℕ} → next_system Y t systems d ≡ some k → {r : Room} {c' : List ℕ} {d' : Set} → Puts (f k) q r c c'
+        → d' ≡ with d k → InOrder w f Y t (i + 1) d' p r a c'
     unfolding joined with elem
-    order_turn l h u v = record {
+    order_turn l {k} h u v = record {
       out = k ∷ g.out;
       is = v ∙ ap (λ (o : Set). with o k) g.is;
-      part = partly_more (partly_as (ap (λ (m : List ℕ). joined (map f m)) (ap (λ (n : ℕ). systems_from n Y (by_name t components (is_system Y)) g.out) more
-          ∙ from_some _ Y _ g.out k (by found refl))) g.part) u;
+      part = partly_more (partly_as (ap (λ (m : List ℕ). joined (map f m))
+          (ap (λ (n : ℕ). systems_from n Y (by_name t components (is_system Y)) g.out)
+          (more l) ∙ from_some _ Y _ g.out k (sym same_found ∙ h))) g.part) u;
     }
-      where
-        more : 32 - i ≡ suc (32 - (i + 1))
-        more = omega arith
-
-        by : (o : Option ℕ) → found ≡ o → found ≡ some k
-        by none z = let y : k ≡ components = unfold or_else in is_found none z in absurd (omega arith)
-        by (some x) z = z ∙ ap some (sym (unfold or_else in is_found (some x) z))

@@ -1,35 +1,28 @@
--- Laws of the order of names, for a loop that has come to position i of both.
-use Rattle.std.specs.Prelude.{Bool, false, true, [], ◌∷◌, ◌≢◌, ◌≡◌, refl, ◌+◌, ◌-◌, ◌<◌, ◌≤◌, ℕ, drop, get_or, length}
-use Rattle.std.proofs.Common.{◌∙◌, ap, add-one, arith, length-drop}
-use Rattle.std.proofs.Math.Path.{sym}
-use Rattle.std.proofs.Math.ListN.{drop_of_length-le}
-use Rattle.std.proofs.Math.Seq.{drop-cons}
-use Rattle.sets.specs.TestLaws.{<?_in, <?_out, =?-in, =?-not, and-false, and-true, fails, or-false, or_swap}
-use Rattle.sets.specs.Tests.{◌<?◌}
+-- The order of names is the library's order of lists of bytes.
+use Rattle.std.specs.Prelude.{Bool, false, true, ◌∷◌, ◌≡◌, refl, ◌<◌, ℕ}
+use Rattle.std.proofs.Common.{◌∙◌, arith}
+use Rattle.std.specs.Prelude.{Some}
+use Rattle.std.specs.declared.cmp.Ordering.{Ordering}
+use Rattle.std.specs.declared.cmp.Ordering.TheVariants.{Equal, Greater, Less}
+use Rattle.std.specs.Ordering.{MatchOrdering, is_lt, is_some_and, nat_cmp}
+use Rattle.std.specs.Cmp.Lexicographic.{slice_partial_cmp}
+use Rattle.std.proofs.lemmas.Cmp.{ranked, same_from_slice_cmp_tested}
+use Rattle.sets.specs.TestLaws.{<?_in, <?_out, =?-in, =?-not, and-false, and-true, fails, or-false, or_l, or_swap}
 use Rattle.text.specs.Bytes.{Text}
 use Rattle.text.specs.Written.{before}
 
-module _ (a b : Text) (i : ℕ) (h : i < length a) where
-  -- a name comes after what it extends
-  pub before_longer : length b ≤ i → false ≡ before (drop i a) (drop i b)
-  unfolding before
-  before_longer k = sym (rw (drop-cons a i 0 h, drop_of_length-le b k))
-
-  pub before_on : i < length b → get_or a i 0 ≡ get_or b i 0 → before (drop i a) (drop i b) ≡ before (drop (i + 1) a) (drop (i + 1) b)
-  unfolding before
-  before_on k e =
-      rw (drop-cons a i 0 h, drop-cons b i 0 k, add-one)
-      (or-false _ _ (fails _ (λ t. let l = <?_out _ _ t in absurd (omega arith))) ∙ and-true _ _ (=?-in _ _ e))
-
-  pub before_differs : i < length b → get_or a i 0 ≢ get_or b i 0 → (get_or a i 0 <? get_or b i 0) ≡ before (drop i a) (drop i b)
-  unfolding before
-  before_differs k e =
-      sym (rw (drop-cons a i 0 h, drop-cons b i 0 k) (or_swap _ _ ∙ or-false _ _ (and-false _ _ (=?-not _ _ e))))
-
-pub before_end : (a b : Text) (i : ℕ) → length a ≤ i → i ≤ length a → (length a <? length b) ≡ before (drop i a) (drop i b)
+by_bytes : (x y : ℕ) (xs ys : Text) (o : Ordering) → o ≡ nat_cmp x y
+    → MatchOrdering o (before (x ∷ xs) (y ∷ ys) ≡ true) (before (x ∷ xs) (y ∷ ys) ≡ before xs ys) (before (x ∷ xs) (y ∷ ys) ≡ false)
 unfolding before
-before_end a b i h k = shorter (drop i b) (length-drop i b) ∙ ap (λ (w : Text). before w (drop i b)) (sym (drop_of_length-le a h))
+by_bytes x y xs ys o e = by o (ranked x y o e)
   where
-    shorter : (w : Text) → length w ≡ length b - i → (length a <? length b) ≡ before [] w
-    shorter [] q = fails _ (λ t. let l = <?_out _ _ t in absurd (omega arith))
-    shorter (c ∷ cs) q = <?_in _ _ (omega arith)
+    by : (o : Ordering) → MatchOrdering o (x < y) (x ≡ y) (y < x)
+        → MatchOrdering o (before (x ∷ xs) (y ∷ ys) ≡ true) (before (x ∷ xs) (y ∷ ys) ≡ before xs ys) (before (x ∷ xs) (y ∷ ys) ≡ false)
+    by Less h = or_l _ _ (<?_in _ _ h)
+    by Equal h = or-false _ _ (fails _ (λ t. let l = <?_out _ _ t in absurd (omega arith))) ∙ and-true _ _ (=?-in _ _ h)
+    by Greater h = or_swap _ _ ∙ or-false _ _ (and-false _ _ (=?-not _ _ (λ q. absurd (omega arith))))
+        ∙ fails _ (λ t. let l = <?_out _ _ t in absurd (omega arith))
+
+pub before_as : (a b : Text) (r : Bool) → r ≡ is_some_and is_lt (slice_partial_cmp (λ x y. Some (nat_cmp x y)) a b) → r ≡ before a b
+unfolding before
+before_as = same_from_slice_cmp_tested nat_cmp is_lt before refl (λ _ _. refl) (λ _ _. refl) by_bytes

@@ -3,53 +3,56 @@ use Rattle.std.specs.Prelude.{Bool, not, ◌≡◌, refl, ◌+◌, ◌-◌, ◌<
 use Rattle.std.proofs.Math.Bool.{false, true}
 use mathlib.Core.List.{List, [], ◌∷◌}
 use Rattle.std.proofs.Math.Logic.{inl, inr}
-use Rattle.std.proofs.Common.{◌∙◌, subst}
+use Rattle.std.proofs.Common.{◌∙◌}
 use Rattle.std.proofs.Math.Path.{ap, ap₂, sym}
 use Rattle.std.proofs.Math.Nat.{sub_self}
 use native.Mathlib.Omega.{arith}
 use borrow.Author.Tests.{not-false, not-true}
 use Rattle.model.specs.Lists.{elem, from, keep, rising}
 use Rattle.sets.specs.Sets.{Set, without}
-use Rattle.sets.specs.TestLaws.{=?-in, =?-not, =?-out, =?-same, and-false, and_in, and_swap, and-true, bool?, clash, fails, if-false, if-true, not_in, or_l, or_out}
-use Rattle.sets.specs.TestLaws.{not_out, ≤?_in, ≤?_out}
-use Rattle.sets.specs.Tests.{◌&◌, ◌=?◌, ◌≤?◌, if?◌then◌else◌, ~◌}
+use Rattle.sets.specs.TestLaws.{=?-in, =?-not, =?-out, =?-same, and-false, and_in, and_swap, and-true, bool?, clash, fails}
+use Rattle.sets.specs.TestLaws.{if-false, if-true, not_in, or_l, or_out}
+use Rattle.sets.specs.TestLaws.{not_out}
+use Rattle.sets.specs.Tests.{◌&◌, ◌=?◌, if?◌then◌else◌, ~◌}
 use Rattle.text.specs.Language.{Name}
 use Rattle.text.specs.Tables.{Table, name_at}
 use Rattle.text.specs.Written.{before, by_name, insert, sorted}
 use Rattle.text_laws.specs.Listed.{sorted-elem}
 use Rattle.model_laws.specs.ListLaws.{rising-elem}
-use Rattle.write_bytes.specs.ByName.{first_by_name, first_or, first_with}
+use Rattle.model_laws.specs.MapLaws.{no_some}
+use Rattle.std.proofs.Math.Option.{Option, none, some, some-injective}
+use Rattle.write_bytes.specs.ByName.{first_by_name, first_in, first_of_two, first_with}
 
 -- ---- one number more
 
-module _ (t : Table) (n : ℕ) (test : Set) (k best : ℕ) {r : Bool} (e : r ≡ test k) where
-  pub not_in_set : not r ≡ true → best ≡ first_with t n test k best
+module _ (t : Table) (test : Set) (k : ℕ) (best : Option ℕ) {r : Bool} (e : r ≡ test k) where
+  pub not_in_set : not r ≡ true → best ≡ first_with t test k best
   unfolding first_with
   not_in_set h = sym (if-false _ _ _ (sym e ∙ not-true _ h))
 
   module _ (h : not r ≡ false) where
-    pub only_one : n ≤ best → k ≡ first_with t n test k best
+    here : (a : ℕ) → first_of_two t k best ≡ a → some a ≡ first_with t test k best
     unfolding first_with
-    only_one l = sym (if-true _ _ _ (sym e ∙ not-false _ h) ∙ if-true _ _ _ (≤?_in _ _ l))
+    here a q = sym (if-true _ _ _ (sym e ∙ not-false _ h) ∙ ap some q)
 
-    module _ (l : best < n) {x y : Name} (p : x ≡ name_at t k) (q : y ≡ name_at t best) {b : Bool} (f : b ≡ before x y) where
-      other : first_with t n test k best ≡ (if? before (name_at t k) (name_at t best) then k else best)
-      unfolding first_with
-      other =
-          if-true _ _ _ (sym e ∙ not-false _ h)
-          ∙ if-false _ _ _ (fails _ (λ z. let m = ≤?_out _ _ z in absurd (omega arith)))
+    pub only_one : best ≡ none → some k ≡ first_with t test k best
+    unfolding first_of_two
+    only_one z = here k (ap (first_of_two t k) z)
 
-      pub comes_first : b ≡ true → k ≡ first_with t n test k best
-      comes_first z = sym (other ∙ if-true _ _ _ (sym (f ∙ ap₂ before p q) ∙ z))
+    module _ (b : ℕ) (z : best ≡ some b) {x y : Name} (p : x ≡ name_at t k) (q : y ≡ name_at t b) {d : Bool} (f : d ≡ before x y) where
+      pub comes_first : d ≡ true → some k ≡ first_with t test k best
+      unfolding first_of_two
+      comes_first w = here k (ap (first_of_two t k) z ∙ if-true _ _ _ (sym (f ∙ ap₂ before p q) ∙ w))
 
-      pub stays_first : b ≡ false → best ≡ first_with t n test k best
-      stays_first z = sym (other ∙ if-false _ _ _ (sym (f ∙ ap₂ before p q) ∙ z))
+      pub stays_first : d ≡ false → best ≡ first_with t test k best
+      unfolding first_of_two
+      stays_first w = z ∙ here b (ap (first_of_two t k) z ∙ if-false _ _ _ (sym (f ∙ ap₂ before p q) ∙ w))
 
 -- ---- the first is found from the highest number down
 
 -- the first by name of the numbers from k up to n
-unfoldable pub first_from : Table → ℕ → Set → ℕ → ℕ
-first_from t n test k = first_or n (sorted t (from (n - k) k test))
+unfoldable pub first_from : Table → ℕ → Set → ℕ → Option ℕ
+first_from t n test k = first_in (sorted t (from (n - k) k test))
 
 from_below : (j k : ℕ) (test : Set) (x : ℕ) → elem x (from j k test) ≡ true → (k ≤ x) × (x < k + j)
 unfolding from
@@ -64,60 +67,55 @@ from_below (suc j) k test x e = kept (test k) (from_below j (suc k) test x) e
     ]
     kept false h q = unfold keep in (let z = h q in (omega (arith, z.0), omega (arith, z.1)))
 
--- k comes to the numbers of a list that are below n
-inserted : (t : Table) (n k b : ℕ) (l : List ℕ) → ((x : ℕ) → elem x l ≡ true → x < n) → b ≡ first_or n l
-    → (if? n ≤? b then k else if? before (name_at t k) (name_at t b) then k else b) ≡ first_or n (insert t k l)
-unfolding first_or insert elem
-inserted t n k b [] h e = if-true _ _ _ (≤?_in _ _ (omega arith))
-inserted t n k b (x ∷ xs) h e =
-    let z : x < n = h x (or_l _ _ (=?-same x)) in
-    let w : (n ≤? b) ≡ false = fails _ (λ q. let u = ≤?_out _ _ q in absurd (omega arith)) in
-    if-false _ _ _ w ∙ elim (bool? (before (name_at t k) (name_at t x))) [
-      | inl q ↦ if-true _ _ _ (at ∙ q) ∙ sym (ap (first_or n) (if-true _ _ _ q))
-      | inr q ↦ if-false _ _ _ (at ∙ q) ∙ e ∙ sym (ap (first_or n) (if-false _ _ _ q))
-    ]
-  where
-    at : before (name_at t k) (name_at t b) ≡ before (name_at t k) (name_at t x)
-    at = ap (λ (i : ℕ). before (name_at t k) (name_at t i)) e
+-- k comes to the numbers of a list
+inserted : (t : Table) (k : ℕ) (l : List ℕ) → some (first_of_two t k (first_in l)) ≡ first_in (insert t k l)
+unfolding first_of_two first_in insert
+inserted t k [] = refl
+inserted t k (x ∷ xs) = elim (bool? (before (name_at t k) (name_at t x))) [
+  | inl q ↦ ap some (if-true _ _ _ q) ∙ sym (ap first_in (if-true _ _ _ q))
+  | inr q ↦ ap some (if-false _ _ _ q) ∙ sym (ap first_in (if-false _ _ _ q))
+]
 
-one_more_lem : (t : Table) (n k : ℕ) (test : Set) (l : List ℕ) (b : ℕ) → ((x : ℕ) → elem x (sorted t l) ≡ true → x < n)
-    → b ≡ first_or n (sorted t l) → first_with t n test k b ≡ first_or n (sorted t (keep (test k) k l))
+one_more_lem : (t : Table) (k : ℕ) (test : Set) (l : List ℕ)
+    → first_with t test k (first_in (sorted t l)) ≡ first_in (sorted t (keep (test k) k l))
 unfolding first_with keep sorted
-one_more_lem t n k test l b h e = by (test k)
+one_more_lem t k test l = by (test k)
   where
-    by : (c : Bool) → (if? c then (if? n ≤? b then k else if? before (name_at t k) (name_at t b) then k else b) else b)
-        ≡ first_or n (sorted t (keep c k l))
-    by true = if-true _ _ _ refl ∙ inserted t n k b (sorted t l) h e
-    by false = if-false _ _ _ refl ∙ e
+    by : (c : Bool) → (if? c then some (first_of_two t k (first_in (sorted t l))) else first_in (sorted t l)) ≡ first_in (sorted t (keep c k l))
+    by true = if-true _ _ _ refl ∙ inserted t k (sorted t l)
+    by false = if-false _ _ _ refl
 
 sorted_below : (t : Table) (j k : ℕ) (test : Set) (x : ℕ) → elem x (sorted t (from j k test)) ≡ true → (k ≤ x) × (x < k + j)
 sorted_below t j k test x e = from_below j k test x (sym (sorted-elem t x (from j k test)) ∙ e)
 
 -- the loop's laws
-pub first_start : (t : Table) (n : ℕ) (test : Set) → n ≡ first_from t n test n
-unfolding first_from first_or from sorted
-first_start t n test = ap (λ (j : ℕ). first_or n (sorted t (from j n test))) (sym (sub_self n))
+pub first_start : (t : Table) (n : ℕ) (test : Set) → none ≡ first_from t n test n
+unfolding first_from first_in from sorted
+first_start t n test = ap (λ (j : ℕ). first_in (sorted t (from j n test))) (sym (sub_self n))
 
-pub first_turn : (t : Table) (n k b : ℕ) (test : Set) → 0 < k → k ≤ n → b ≡ first_from t n test k
-    → first_with t n test (k - 1) b ≡ first_from t n test (k - 1)
+pub first_turn : (t : Table) (n k : ℕ) (b : Option ℕ) (test : Set) → 0 < k → k ≤ n → b ≡ first_from t n test k
+    → first_with t test (k - 1) b ≡ first_from t n test (k - 1)
 unfolding first_from from
 first_turn t n zero b test h l e = absurd (omega arith)
 first_turn t n (suc k) b test h l e =
     let p : suc k - 1 ≡ k = omega arith in
     let d : suc (n - suc k) ≡ n - k = omega arith in
-    ap (λ (i : ℕ). first_with t n test i b) p
-    ∙ one_more_lem t n k test (from (n - suc k) (suc k) test) b
-    (λ x q. let z = sorted_below t (n - suc k) (suc k) test x q in omega (arith, z.1)) e
-    ∙ ap (λ (j : ℕ). first_or n (sorted t (from j k test))) d
-    ∙ ap (λ (i : ℕ). first_or n (sorted t (from (n - i) i test))) (sym p)
+    ap₂ (λ (i : ℕ) (o : Option ℕ). first_with t test i o) p e
+    ∙ one_more_lem t k test (from (n - suc k) (suc k) test)
+    ∙ ap (λ (j : ℕ). first_in (sorted t (from j k test))) d
+    ∙ ap (λ (i : ℕ). first_in (sorted t (from (n - i) i test))) (sym p)
 
-pub first_end : (t : Table) (n k b : ℕ) (test : Set) → k ≤ 0 → b ≡ first_from t n test k → b ≡ first_by_name t n test
+pub first_end : (t : Table) (n k : ℕ) (b : Option ℕ) (test : Set) → k ≤ 0 → b ≡ first_from t n test k → b ≡ first_by_name t n test
 unfolding first_from first_by_name by_name rising
 first_end t n k b test h e = let z : k ≡ 0 = omega arith in
-    e ∙ ap (λ (i : ℕ). first_or n (sorted t (from (n - i) i test))) z
-    ∙ ap (λ (j : ℕ). first_or n (sorted t (from j 0 test))) (let d : n - 0 ≡ n = omega arith in d)
+    e ∙ ap (λ (i : ℕ). first_in (sorted t (from (n - i) i test))) z
+    ∙ ap (λ (j : ℕ). first_in (sorted t (from j 0 test))) (let d : n - 0 ≡ n = omega arith in d)
 
 -- ---- what is left without the first
+
+unfoldable first_or : ℕ → List ℕ → ℕ
+first_or n [] = n
+first_or n (x ∷ xs) = x
 
 unfoldable rest : List ℕ → List ℕ
 rest [] = []
@@ -181,53 +179,48 @@ without_first t (suc j) i test h m q =
         not_there e = unfold without in and_swap _ _ ∙ and-false _ _ e
 
 module _ (t : Table) (n : ℕ) (test : Set) where
-  cases : (l : List ℕ) → by_name t n test ≡ l → first_by_name t n test < n
-      → by_name t n test ≡ first_by_name t n test ∷ by_name t n (without test (first_by_name t n test))
-  unfolding first_by_name first_or by_name rising
-  cases [] e h = absurd (let z : first_or n (sorted t (from n 0 test)) ≡ n = ap (first_or n) e in omega arith)
-  cases (x ∷ xs) e h =
-      let y : first_or n (sorted t (from n 0 test)) ≡ x = ap (first_or n) e in
-      e ∙ ap₂ (λ (a : ℕ) (l : List ℕ). a ∷ l) (sym y)
-      (sym (without_first t n 0 test _ xs (e ∙ ap (λ (a : ℕ). a ∷ xs) (sym y))))
-
-  -- the first, and then those without it
-  pub first_then : first_by_name t n test < n
-      → by_name t n test ≡ first_by_name t n test ∷ by_name t n (without test (first_by_name t n test))
-  first_then h = cases (by_name t n test) refl h
-
   pub head_below : (x : ℕ) (xs : List ℕ) → by_name t n test ≡ x ∷ xs → x < n
   unfolding by_name rising elem
   head_below x xs e = let z = sorted_below t n 0 test x (ap (elem x) e ∙ or_l _ _ (=?-same x)) in omega (arith, z.1)
 
-  head_is : (x : ℕ) (xs : List ℕ) → by_name t n test ≡ x ∷ xs → first_by_name t n test ≡ x
-  unfolding first_by_name first_or
-  head_is x xs e = ap (first_or n) e
-
   -- there is none
-  pub first_none : n ≤ first_by_name t n test → by_name t n test ≡ []
+  pub first_none : first_by_name t n test ≡ none → by_name t n test ≡ []
+  unfolding first_by_name first_in
   first_none h = by (by_name t n test) refl
     where
       by : (l : List ℕ) → by_name t n test ≡ l → by_name t n test ≡ []
       by [] e = e
-      by (x ∷ xs) e = absurd (let w = head_below x xs e in let z = head_is x xs e in omega arith)
+      by (x ∷ xs) e = no_some (sym h ∙ ap first_in e)
 
-  -- it passes the test
-  pub first_passes : first_by_name t n test < n → test (first_by_name t n test) ≡ true
-  unfolding by_name elem
-  first_passes h =
-      ((rising-elem n _ test).0 (sym (sorted-elem t _ (rising n test)) ∙ ap (elem _) (first_then h) ∙ or_l _ _ (=?-same _))).1
+  module _ (k : ℕ) (h : first_by_name t n test ≡ some k) where
+    -- the first, and then those without it
+    pub first_then : by_name t n test ≡ k ∷ by_name t n (without test k)
+    unfolding first_by_name first_in by_name rising
+    first_then = by (sorted t (from n 0 test)) refl
+      where
+        by : (l : List ℕ) → sorted t (from n 0 test) ≡ l → sorted t (from n 0 test) ≡ k ∷ sorted t (from n 0 (without test k))
+        by [] e = no_some (sym (ap first_in e) ∙ h)
+        by (x ∷ xs) e =
+            let y : x ≡ k = some-injective _ _ (sym (ap first_in e) ∙ h) in
+            let q : sorted t (from n 0 test) ≡ k ∷ xs = e ∙ ap (λ (a : ℕ). a ∷ xs) y in
+            q ∙ ap (λ (l : List ℕ). k ∷ l) (sym (without_first t n 0 test k xs q))
+
+    pub first_below : k < n
+    first_below = head_below k _ first_then
+
+    -- it passes the test
+    pub first_passes : test k ≡ true
+    unfolding by_name elem
+    first_passes = ((rising-elem n k test).0 (sym (sorted-elem t k (rising n test)) ∙ ap (elem k) first_then ∙ or_l _ _ (=?-same k))).1
 
 -- the next of some numbers is k
-pub next_is : (t : Table) (n k : ℕ) (s s' : Set) → k ≡ first_by_name t n s → k < n → s' ≡ without s k
-    → by_name t n s ≡ k ∷ by_name t n s'
-next_is t n k s s' e h d =
-    first_then t n s (subst (λ (m : ℕ). m < n) e h) ∙ ap (λ (m : ℕ). m ∷ by_name t n (without s m)) (sym e)
-    ∙ ap (λ (r : Set). k ∷ by_name t n r) (sym d)
+pub next_is : (t : Table) (n k : ℕ) (s s' : Set) → first_by_name t n s ≡ some k → s' ≡ without s k → by_name t n s ≡ k ∷ by_name t n s'
+next_is t n k s s' e d = first_then t n s k e ∙ ap (λ (r : Set). k ∷ by_name t n r) (sym d)
 
 pub listed_below : (t : Table) (n : ℕ) (s : Set) (x : ℕ) → elem x (by_name t n s) ≡ true → x < n
 unfolding by_name rising
 listed_below t n s x e = let z = sorted_below t n 0 s x e in omega (arith, z.1)
 
-pub fewer : (t : Table) (n k : ℕ) (s s' : Set) → k ≡ first_by_name t n s → k < n → s' ≡ without s k
+pub fewer : (t : Table) (n k : ℕ) (s s' : Set) → first_by_name t n s ≡ some k → s' ≡ without s k
     → length (by_name t n s') < length (by_name t n s)
-fewer t n k s s' e h d = let q = ap length (next_is t n k s s' e h d) in omega arith
+fewer t n k s s' e d = let q = ap length (next_is t n k s s' e d) in omega arith

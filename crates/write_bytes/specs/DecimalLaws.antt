@@ -1,5 +1,5 @@
 -- Laws of a number written in base ten: a last digit after the digits before it.
-use Rattle.std.specs.Prelude.{List, [], ◌++◌, ◌∷◌, ◌≡◌, ◌%◌, ◌+◌, ◌/◌, ◌<◌, ◌≤◌, ℕ}
+use Rattle.std.specs.Prelude.{List, [], ◌∷◌, ◌%◌, ◌+◌, ◌/◌, ◌<◌, ◌≤◌, ℕ}
 use Rattle.std.proofs.Common.{◌∙◌, sym, arith}
 use Rattle.sets.specs.TestLaws.{<?_in, <?_out, fails, if-false, if-true}
 use Rattle.text.specs.Session.{decimal}

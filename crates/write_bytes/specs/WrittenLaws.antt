@@ -1,6 +1,6 @@
 -- Laws of a text that is measured first and then written.
 use Rattle.std.proofs.Math.Bool.{false, true}
-use Rattle.std.specs.Prelude.{not, List, [], ◌∷◌, ◌++◌, ◌≡◌, ◌+◌, ◌-◌, ◌≤◌, ℕ, take}
+use Rattle.std.specs.Prelude.{not, List, [], ◌∷◌, ◌++◌, ◌≡◌, ◌-◌, ◌≤◌, ℕ, take}
 use Rattle.std.proofs.Common.{◌∙◌, ap₂, le_refl}
 use Rattle.std.proofs.Math.Path.{ap, refl, sym}
 use Rattle.std.proofs.Math.Nat.{sub_self}

@@ -33,10 +33,7 @@ pub fn put(out: &mut [u8], room: Room, word: &[u8]) -> Room
 {
     let left = room.left;
     if !still_fits(room, word.len()) {
-        return Room {
-            fits: false,
-            left: left,
-        };
+        return Room { fits: false, left };
     }
     let then = Room {
         fits: true,
@@ -76,12 +73,6 @@ pub fn put_number(out: &mut [u8], room: Room, n: usize) -> Room
 
 // ---- names of a table
 
-pub fn wide(x: u8) -> usize
-    ensures { result ≡ x }
-{
-    x as usize
-}
-
 fn name_len(names: &[u8], places: usize, k: usize) -> usize
     requires { length names.now ≡ places * 33 }
     ensures { result ≡ length (name_at (table_of places names.now) k) }
@@ -89,7 +80,7 @@ fn name_len(names: &[u8], places: usize, k: usize) -> usize
     if places <= k {
         return 0;
     }
-    let n = wide(names[k * WIDTH]);
+    let n = usize::from(names[k * WIDTH]);
     if 32 < n {
         return 0;
     }

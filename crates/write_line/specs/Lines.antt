@@ -1,9 +1,10 @@
 -- The lines of the text, each by the number of its component.
 use Rattle.std.specs.Prelude.{Bool, ◌++◌, map, ℕ}
+use Rattle.std.proofs.Math.Option.{Option}
 use Rattle.model.specs.Book.{Book, Systems, components, composed, has_version, implementation, is_module, is_system, specified, usable, versions}
-use Rattle.model.specs.Maps.{is_some, or_else}
+use Rattle.model.specs.Maps.{is_some}
 use Rattle.sets.specs.Sets.{Set}
-use Rattle.sets.specs.Tests.{◌&◌, ◌=?◌, ◌or◌, ◌⇒◌, all, ~◌}
+use Rattle.sets.specs.Tests.{◌&◌, ◌⇒◌, all, ~◌}
 use Rattle.text.specs.Bytes.{Text, bytes}
 use Rattle.text.specs.Tables.{Table, Tables, joined}
 use Rattle.text.specs.Written.{by_name, first_of, line, mod_of, spec_of, sys_of, systems_in_order}
@@ -38,19 +39,15 @@ has_line Spec b = specified b.specs
 has_line Module b = is_module b.modules
 has_line System b = is_system b.systems
 
--- a set and the number c, if it is asked for
-unfoldable pub with_if : Set → ℕ → Bool → Set
-with_if s c b x = (x =? c & b) or s x
-
 -- ---- the order of systems
 
 -- s is not among the systems that are out, and its usable systems are
 unfoldable pub is_next : Systems → Set → ℕ → Bool
 is_next Y out s = ~ out s & all components (λ c. usable Y s c ⇒ is_system Y c ⇒ out c)
 
--- the next of some systems: 32 where there is none
-unfoldable pub next_system : Systems → Table → Set → Set → ℕ
-next_system Y t systems out = or_else (first_of (is_next Y out) (by_name t components systems)) components
+-- the next of some systems
+unfoldable pub next_system : Systems → Table → Set → Set → Option ℕ
+next_system Y t systems out = first_of (is_next Y out) (by_name t components systems)
 
 unfoldable pub system_lines : Book → Tables → Text
 system_lines b t = joined (map (line_of System b t) (systems_in_order b t))

@@ -6,108 +6,60 @@ ghost use Rattle.sets.specs.Sets.{bit};
 ghost use Rattle.sets.specs.Tests.{if?◌then◌else◌};
 ghost use Rattle.text.specs.Bytes.{bytes};
 ghost use Rattle.text.specs.Written.{line, spec_of, mod_of, sys_of};
-ghost use Rattle.names.specs.Stored.{table_of, tables_of};
+ghost use Rattle.names.specs.Stored.{table_of, tables};
 ghost use Rattle.write_bytes.specs.Room.{Puts};
 ghost use Rattle.write_bytes.specs.ByName.{listed};
 ghost use Rattle.write_version.specs.Pieces.{version_of};
 ghost use Rattle.write_line.specs.Lines.{if_asked, versions_in, ending_of, line_of};
 ghost use Rattle.model.specs.Book.{has_version};
-ghost use Rattle.book.specs.Plain.{plain_of, specs_of};
+ghost use Rattle.book.specs.Plain.{plain, specs_of};
 
+use book::Book;
+use names::Names;
 use write_bytes::Room;
 use write_version::Kind;
 
-fn put_version<'a>(
+fn put_version(
     out: &mut [u8],
     room: Room,
-    sets: &'a [u64; 576],
-    numbers: &'a [u8; 8768],
-    comps: &'a [u8; 1056],
-    vers: &'a [u8; 2112],
-    facs: &'a [u8; 2112],
-    impls: &'a [u8; 8448],
+    book: &Book,
+    names: &Names,
     kind: Kind,
     c: usize,
     v: usize,
 ) -> Room
     requires { c < 32 }
-    ensures { Puts (version_of kind (plain_of sets.now numbers.now) (tables_of comps.now vers.now facs.now impls.now) c v) room result out.old out.new }
+    ensures { Puts (version_of kind (plain book.now) (tables names.now) c v) room result out.old out.new }
 {
     match kind {
-        Kind::Spec => write_version::put_spec_version(
-            out, room, sets, numbers, comps, vers, facs, impls, c, v,
-        ),
-        Kind::Module => write_version::put_mod_version(
-            out, room, sets, numbers, comps, vers, facs, impls, c, v,
-        ),
-        Kind::System => write_version::put_sys_version(
-            out, room, sets, numbers, comps, vers, facs, impls, c, v,
-        ),
+        Kind::Spec => write_version::put_spec_version(out, room, book, names, c, v),
+        Kind::Module => write_version::put_mod_version(out, room, book, names, c, v),
+        Kind::System => write_version::put_sys_version(out, room, book, names, c, v),
     }
 }
 
-// "Several versions are parted by "; "."
-fn put_version_and<'a>(
+// The versions of a set: "Several versions are parted by "; "."
+fn put_versions(
     out: &mut [u8],
     room: Room,
-    sets: &'a [u64; 576],
-    numbers: &'a [u8; 8768],
-    comps: &'a [u8; 1056],
-    vers: &'a [u8; 2112],
-    facs: &'a [u8; 2112],
-    impls: &'a [u8; 8448],
-    kind: Kind,
-    c: usize,
-    v: usize,
-    more: bool,
-) -> Room
-    requires { c < 32 }
-    ensures { Puts (version_of kind (plain_of sets.now numbers.now) (tables_of comps.now vers.now facs.now impls.now) c v ++ (if? more then bytes "; " else [])) room result out.old out.new }
-{
-    let a = put_version(
-        out, room, sets, numbers, comps, vers, facs, impls, kind, c, v,
-    );
-    write_version::put_if(out, a, more, b"; ")
-}
-
-// The versions of a set.
-fn put_versions<'a>(
-    out: &mut [u8],
-    room: Room,
-    sets: &'a [u64; 576],
-    numbers: &'a [u8; 8768],
-    comps: &'a [u8; 1056],
-    vers: &'a [u8; 2112],
-    facs: &'a [u8; 2112],
-    impls: &'a [u8; 8448],
+    book: &Book,
+    names: &Names,
     kind: Kind,
     c: usize,
     set: u64,
 ) -> Room
     requires { c < 32 }
-    ensures { Puts (listed (bytes "; ") (version_of kind (plain_of sets.now numbers.now) (tables_of comps.now vers.now facs.now impls.now) c) (table_of 64 vers.now) 64 (bit set)) room result out.old out.new }
+    ensures { Puts (listed (bytes "; ") (version_of kind (plain book.now) (tables names.now) c) (table_of 64 names.now.vers) 64 (bit set))
+        room result out.old out.new }
 {
     let mut after = room;
+    let mut semicolon: &[u8] = b"";
     let mut rest = set;
-    let mut k = write_order::first_by_name(vers, 64, rest);
-    while k < 64 {
-        rest = sets::without(rest, k);
-        let next = write_order::first_by_name(vers, 64, rest);
-        after = put_version_and(
-            out,
-            after,
-            sets,
-            numbers,
-            comps,
-            vers,
-            facs,
-            impls,
-            kind,
-            c,
-            k,
-            next < 64,
-        );
-        k = next;
+    while let Some(v) = write_order::first_by_name(&names.vers, 64, rest) {
+        after = write_bytes::put(out, after, semicolon);
+        after = put_version(out, after, book, names, kind, c, v);
+        semicolon = b"; ";
+        rest = sets::without(rest, v);
     }
     after
 }
@@ -115,164 +67,84 @@ fn put_versions<'a>(
 // ---- lines
 
 // The versions of component c, if it is what is asked for.
-fn versions_if<'a>(sets: &'a [u64; 576], numbers: &'a [u8; 8768], asked: bool, c: usize) -> u64
+fn versions_if(book: &Book, asked: bool, c: usize) -> u64
     requires { c < 32 }
-    ensures { bit result ≡ if_asked asked (has_version (specs_of sets.now numbers.now) c) }
+    ensures { bit result ≡ if_asked asked (has_version (specs_of book.now.sets book.now.numbers) c) }
 {
     if !asked {
         return 0;
     }
-    book::versions(sets, numbers, c)
+    book.versions(c)
 }
 
 // The versions that the line of c tells.
-fn versions_in<'a>(sets: &'a [u64; 576], numbers: &'a [u8; 8768], kind: Kind, c: usize) -> u64
+fn versions_in(book: &Book, kind: Kind, c: usize) -> u64
     requires { c < 32 }
-    ensures { bit result ≡ versions_in kind (plain_of sets.now numbers.now) c }
+    ensures { bit result ≡ versions_in kind (plain book.now) c }
 {
     match kind {
-        Kind::Spec => book::versions(sets, numbers, c),
-        Kind::Module => versions_if(sets, numbers, book::is_module(sets, numbers, c), c),
-        Kind::System => versions_if(sets, numbers, book::is_system(sets, numbers, c), c),
+        Kind::Spec => book.versions(c),
+        Kind::Module => versions_if(book, book.is_module(c), c),
+        Kind::System => versions_if(book, book.is_system(c), c),
     }
 }
 
 // "Every line ends with a line feed."
-fn put_ending<'a>(
-    out: &mut [u8],
-    room: Room,
-    sets: &'a [u64; 576],
-    numbers: &'a [u8; 8768],
-    comps: &'a [u8; 1056],
-    vers: &'a [u8; 2112],
-    facs: &'a [u8; 2112],
-    impls: &'a [u8; 8448],
-    kind: Kind,
-    c: usize,
-) -> Room
+fn put_ending(out: &mut [u8], room: Room, book: &Book, names: &Names, kind: Kind, c: usize) -> Room
     requires { c < 32 }
-    ensures { Puts (ending_of kind (plain_of sets.now numbers.now) (tables_of comps.now vers.now facs.now impls.now) c) room result out.old out.new }
+    ensures { Puts (ending_of kind (plain book.now) (tables names.now) c) room result out.old out.new }
 {
     let a = write_bytes::put(out, room, b"; ");
-    let set = versions_in(sets, numbers, kind, c);
-    let b = put_versions(
-        out, a, sets, numbers, comps, vers, facs, impls, kind, c, set,
-    );
+    let set = versions_in(book, kind, c);
+    let b = put_versions(out, a, book, names, kind, c, set);
     write_bytes::put(out, b, b" end\n")
 }
 
-fn put_spec_line<'a>(
-    out: &mut [u8],
-    room: Room,
-    sets: &'a [u64; 576],
-    numbers: &'a [u8; 8768],
-    comps: &'a [u8; 1056],
-    vers: &'a [u8; 2112],
-    facs: &'a [u8; 2112],
-    impls: &'a [u8; 8448],
-    c: usize,
-) -> Room
+fn put_spec_line(out: &mut [u8], room: Room, book: &Book, names: &Names, c: usize) -> Room
     requires { c < 32 }
-    ensures { Puts (line (spec_of (plain_of sets.now numbers.now) (tables_of comps.now vers.now facs.now impls.now) c)) room result out.old out.new }
+    ensures { Puts (line (spec_of (plain book.now) (tables names.now) c)) room result out.old out.new }
 {
     let a = write_bytes::put(out, room, b"spec ");
-    let b = write_bytes::put(out, a, write_bytes::name(comps, 32, c));
+    let b = write_bytes::put(out, a, write_bytes::name(&names.comps, 32, c));
     let d = write_bytes::put(out, b, b" provides ");
-    let e = write_version::put_names(out, d, facs, 64, book::provides(sets, numbers, c));
-    put_ending(
-        out,
-        e,
-        sets,
-        numbers,
-        comps,
-        vers,
-        facs,
-        impls,
-        Kind::Spec,
-        c,
-    )
+    let e = write_version::put_names(out, d, &names.facs, 64, book.provides(c));
+    put_ending(out, e, book, names, Kind::Spec, c)
 }
 
-fn put_mod_line<'a>(
-    out: &mut [u8],
-    room: Room,
-    sets: &'a [u64; 576],
-    numbers: &'a [u8; 8768],
-    comps: &'a [u8; 1056],
-    vers: &'a [u8; 2112],
-    facs: &'a [u8; 2112],
-    impls: &'a [u8; 8448],
-    c: usize,
-) -> Room
+fn put_mod_line(out: &mut [u8], room: Room, book: &Book, names: &Names, c: usize) -> Room
     requires { c < 32 }
-    ensures { Puts (line (mod_of (plain_of sets.now numbers.now) (tables_of comps.now vers.now facs.now impls.now) c)) room result out.old out.new }
+    ensures { Puts (line (mod_of (plain book.now) (tables names.now) c)) room result out.old out.new }
 {
     let a = write_bytes::put(out, room, b"mod ");
-    let b = write_bytes::put(out, a, write_bytes::name(comps, 32, c));
-    put_ending(
-        out,
-        b,
-        sets,
-        numbers,
-        comps,
-        vers,
-        facs,
-        impls,
-        Kind::Module,
-        c,
-    )
+    let b = write_bytes::put(out, a, write_bytes::name(&names.comps, 32, c));
+    put_ending(out, b, book, names, Kind::Module, c)
 }
 
-fn put_sys_line<'a>(
-    out: &mut [u8],
-    room: Room,
-    sets: &'a [u64; 576],
-    numbers: &'a [u8; 8768],
-    comps: &'a [u8; 1056],
-    vers: &'a [u8; 2112],
-    facs: &'a [u8; 2112],
-    impls: &'a [u8; 8448],
-    c: usize,
-) -> Room
+fn put_sys_line(out: &mut [u8], room: Room, book: &Book, names: &Names, c: usize) -> Room
     requires { c < 32 }
-    ensures { Puts (line (sys_of (plain_of sets.now numbers.now) (tables_of comps.now vers.now facs.now impls.now) c)) room result out.old out.new }
+    ensures { Puts (line (sys_of (plain book.now) (tables names.now) c)) room result out.old out.new }
 {
     let a = write_bytes::put(out, room, b"sys ");
-    let b = write_bytes::put(out, a, write_bytes::name(comps, 32, c));
+    let b = write_bytes::put(out, a, write_bytes::name(&names.comps, 32, c));
     let d = write_bytes::put(out, b, b" use ");
-    let e = write_version::put_names(out, d, comps, 32, book::usable(sets, numbers, c));
-    put_ending(
-        out,
-        e,
-        sets,
-        numbers,
-        comps,
-        vers,
-        facs,
-        impls,
-        Kind::System,
-        c,
-    )
+    let e = write_version::put_names(out, d, &names.comps, 32, book.usable(c));
+    put_ending(out, e, book, names, Kind::System, c)
 }
 
-pub fn put_line<'a>(
+pub fn put_line(
     out: &mut [u8],
     room: Room,
-    sets: &'a [u64; 576],
-    numbers: &'a [u8; 8768],
-    comps: &'a [u8; 1056],
-    vers: &'a [u8; 2112],
-    facs: &'a [u8; 2112],
-    impls: &'a [u8; 8448],
+    book: &Book,
+    names: &Names,
     kind: Kind,
     c: usize,
 ) -> Room
     requires { c < 32 }
-    ensures { Puts (line_of kind (plain_of sets.now numbers.now) (tables_of comps.now vers.now facs.now impls.now) c) room result out.old out.new }
+    ensures { Puts (line_of kind (plain book.now) (tables names.now) c) room result out.old out.new }
 {
     match kind {
-        Kind::Spec => put_spec_line(out, room, sets, numbers, comps, vers, facs, impls, c),
-        Kind::Module => put_mod_line(out, room, sets, numbers, comps, vers, facs, impls, c),
-        Kind::System => put_sys_line(out, room, sets, numbers, comps, vers, facs, impls, c),
+        Kind::Spec => put_spec_line(out, room, book, names, c),
+        Kind::Module => put_mod_line(out, room, book, names, c),
+        Kind::System => put_sys_line(out, room, book, names, c),
     }
 }

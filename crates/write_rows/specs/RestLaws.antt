@@ -1,5 +1,5 @@
 -- A row at the start of the rest of a slice, said of the whole slice and its room.
-use Rattle.std.specs.Prelude.{Bool, not, List, ◌++◌, ◌≡◌, ◌+◌, ◌-◌, ◌≤◌, ℕ, drop, take}
+use Rattle.std.specs.Prelude.{Bool, not, List, ◌++◌, ◌≡◌, ◌-◌, ◌≤◌, ℕ, drop, take}
 use Rattle.std.proofs.Math.Bool.{false, true}
 use Rattle.std.proofs.Common.{append_assoc, ◌∙◌, arith, length-append, length-drop}
 use Rattle.std.proofs.Math.Logic.{inl, inr}

@@ -19,10 +19,7 @@ fn behind(room: Room, wrote: Wrote) -> Room
     let left = room.left;
     let len = wrote.len;
     if left < len {
-        return Room {
-            fits: false,
-            left: left,
-        };
+        return Room { fits: false, left };
     }
     Room {
         fits: wrote.fits,

@@ -1,82 +1,80 @@
 -- Laws of a list written by name: one number after another until none is left.
-use Rattle.std.specs.Prelude.{Bool, false, true, ◌≡◌, ◌+◌, ◌<◌, ◌≤◌, ℕ, length}
+use Rattle.std.specs.Prelude.{true, ◌≡◌, ◌<◌, ℕ, length}
 use mathlib.Core.List.{List, [], ◌++◌, ◌∷◌, append_assoc, append-nil, map}
-use Rattle.std.proofs.Common.{◌∙◌, subst, arith}
-use Rattle.std.proofs.Math.Path.{ap, ap₂, refl, sym}
+use Rattle.std.proofs.Common.{◌∙◌}
+use Rattle.std.proofs.Math.Option.{none, some}
+use Rattle.std.proofs.Math.Path.{ap, refl, sym}
+use Rattle.names.specs.Stored.{table_of}
 use Rattle.sets.specs.Sets.{Set, without}
-use Rattle.sets.specs.TestLaws.{<?_in, <?_out, and_r, fails, if-false, if-true}
-use Rattle.sets.specs.Tests.{◌<?◌, if?◌then◌else◌}
-use Rattle.text.specs.Bytes.{Text}
-use Rattle.text.specs.Tables.{Table}
+use Rattle.sets.specs.TestLaws.{and_r}
+use Rattle.text.specs.Bytes.{Text, bytes}
+use Rattle.text.specs.Tables.{Table, name_at}
 use Rattle.text.specs.Written.{by_name, parted}
-use Rattle.write_bytes.specs.ByName.{first_by_name, first_or, listed}
-use Rattle.write_bytes.specs.ByNameLaws.{fewer, first_none, first_passes, head_below, next_is}
+use Rattle.write_bytes.specs.ByName.{first_by_name, listed}
+use Rattle.write_bytes.specs.ByNameLaws.{fewer, first_below, first_none, first_passes, next_is}
 use Rattle.write_bytes.specs.Room.{Puts}
-use Rattle.write_bytes.specs.RoomLaws.{Partly, partly_as, partly_end, partly_keeps, partly_more, partly_start}
+use Rattle.write_bytes.specs.RoomLaws.{Partly, partly_as, partly_end, partly_keeps, partly_more, partly_start, puts_as, puts_then}
 use Rattle.write_bytes.specs.declared.Room.{Room}
+use Rattle.write_version.specs.Pieces.{led_by, names_led, names_of}
 
--- the numbers of s are to come of those of s₀, and k is the next
-pub record Listing (p : Text) (f : ℕ → Text) (t : Table) (n : ℕ) (s₀ s : Set) (k : ℕ) (i j : Room) (a c : List ℕ) : Type 0 where
-  pub first : k ≡ first_by_name t n s
+-- the next of some pieces, and those behind it
+next_piece : (s p x : Text) (xs : List Text) → led_by s p (x ∷ xs) ≡ (s ++ x) ++ led_by p p xs
+unfolding led_by parted
+next_piece s p x [] = sym (append-nil (s ++ x))
+next_piece s p x (y ∷ ys) = sym (append_assoc s x (p ++ parted p (y ∷ ys)))
+
+led_by_none : (p : Text) (xs : List Text) → led_by [] p xs ≡ parted p xs
+unfolding led_by parted
+led_by_none p [] = refl
+led_by_none p (x ∷ xs) = refl
+
+-- the names of the numbers, where nothing stands before the first
+pub not_led : (names : List ℕ) (n : ℕ) (s : Set) {i j : Room} {a c : List ℕ}
+    → Puts (names_led [] names n s) i j a c → Puts (names_of names n s) i j a c
+unfolding names_led names_of listed
+not_led names n s = puts_as (led_by_none (bytes ", ") (map (name_at (table_of n names)) (by_name (table_of n names) n s)))
+
+-- the numbers of s are to come of those of s₀; the text before the next is `sep`, before the first of all it was `first`
+pub record Listing (first p : Text) (f : ℕ → Text) (t : Table) (n : ℕ) (s₀ s : Set) (sep : Text) (i j : Room) (a c : List ℕ) : Type 0 where
   pub within : (x : ℕ) → s x ≡ true → s₀ x ≡ true
-  pub part : Partly (listed p f t n s₀) (listed p f t n s) i j a c
+  pub part : Partly (led_by first p (map f (by_name t n s₀))) (led_by sep p (map f (by_name t n s))) i j a c
 
-module _ {p : Text} {f : ℕ → Text} {t : Table} {n : ℕ} where
-  pub listing_start : {s : Set} {k : ℕ} {i : Room} {a : List ℕ} → k ≡ first_by_name t n s → Listing p f t n s s k i i a a
-  listing_start {i = i} {a = a} e = record { first = e; within = λ x h. h; part = partly_start _ i a }
+module _ {first p : Text} {f : ℕ → Text} {t : Table} {n : ℕ} where
+  pub listing_start : {s : Set} {i : Room} {a : List ℕ} → Listing first p f t n s s first i i a a
+  listing_start {i = i} {a = a} = record { within = λ x h. h; part = partly_start _ i a }
 
-  module _ {s₀ s : Set} {k : ℕ} {i j : Room} {a c : List ℕ} (g : Listing p f t n s₀ s k i j a c) where
+  module _ {s₀ s : Set} {sep : Text} {i j : Room} {a c : List ℕ} (g : Listing first p f t n s₀ s sep i j a c) where
     pub listing_keeps : length c ≡ length a
     listing_keeps = partly_keeps g.part
 
-    pub listing_end : n ≤ k → Puts (listed p f t n s₀) i j a c
-    unfolding listed parted
-    listing_end h =
-        partly_end (partly_as (ap (λ (l : List ℕ). parted p (map f l)) (first_none t n s (subst (λ (m : ℕ). n ≤ m) g.first h)))
-        g.part)
+    pub listing_end : first_by_name t n s ≡ none → Puts (led_by first p (map f (by_name t n s₀))) i j a c
+    unfolding led_by
+    listing_end h = partly_end (partly_as (ap (λ (l : List ℕ). led_by sep p (map f l)) (first_none t n s h)) g.part)
 
-    module _ (h : k < n) where
+    module _ {k : ℕ} (e : first_by_name t n s ≡ some k) where
       pub listing_in_lem : s₀ k ≡ true
-      listing_in_lem =
-          g.within k (ap s g.first ∙ first_passes t n s (subst (λ (m : ℕ). m < n) g.first h))
+      listing_in_lem = g.within k (first_passes t n s k e)
+
+      pub listing_below : k < n
+      listing_below = first_below t n s k e
 
       module _ {s' : Set} (d : s' ≡ without s k) where
-        goes_on : by_name t n s ≡ k ∷ by_name t n s'
-        goes_on = next_is t n k s s' g.first h d
-
         -- there are fewer then
         pub listing_less : length (by_name t n s') < length (by_name t n s)
-        listing_less = fewer t n k s s' g.first h d
+        listing_less = fewer t n k s s' e d
 
-        module _ {k' : ℕ} (e' : k' ≡ first_by_name t n s') {b : Bool} (m : b ≡ (k' <? n)) where
-          no_more : by_name t n s' ≡ [] → b ≡ false
-          unfolding first_by_name first_or
-          no_more q = m ∙ fails _ (λ z. let l = <?_out _ _ z in let y : k' ≡ n = e' ∙ ap (first_or n) q in absurd (omega arith))
+        apart : led_by sep p (map f (by_name t n s)) ≡ (sep ++ f k) ++ led_by p p (map f (by_name t n s'))
+        apart = ap (λ (l : List ℕ). led_by sep p (map f l)) (next_is t n k s s' e d) ∙ next_piece sep p (f k) (map f (by_name t n s'))
 
-          one_more_lem : (x : ℕ) (xs : List ℕ) → by_name t n s' ≡ x ∷ xs → b ≡ true
-          unfolding first_by_name first_or
-          one_more_lem x xs q =
-              m ∙ <?_in _ _ (let l = head_below t n s' x xs q in let y : k' ≡ x = e' ∙ ap (first_or n) q in omega arith)
+        pub listing_turn : {q r : Room} {b c' : List ℕ} → Puts sep j q c b → Puts (f k) q r b c' → Listing first p f t n s₀ s' p i r a c'
+        unfolding without
+        listing_turn o o' = record {
+          within = λ x z. g.within x (and_r _ _ (sym (ap (λ (r : Set). r x) d) ∙ z));
+          part = partly_more (partly_as apart g.part) (puts_then o o');
+        }
 
-          apart : listed p f t n s ≡ (f k ++ (if? b then p else [])) ++ listed p f t n s'
-          unfolding listed parted
-          apart = ap (λ (l : List ℕ). parted p (map f l)) goes_on ∙ by (by_name t n s') refl
-            where
-              by : (l : List ℕ) → by_name t n s' ≡ l
-                  → parted p (f k ∷ map f (by_name t n s')) ≡ (f k ++ (if? b then p else [])) ++ parted p (map f (by_name t n s'))
-              by [] q =
-                  ap (λ (l : List ℕ). parted p (f k ∷ map f l)) q ∙ sym (append-nil (f k)) ∙ sym (append-nil (f k ++ []))
-                  ∙ ap₂ (λ (o : Text) (l : List ℕ). (f k ++ o) ++ parted p (map f l)) (sym (if-false _ _ _ (no_more q))) (sym q)
-              by (x ∷ xs) q =
-                  ap (λ (l : List ℕ). parted p (f k ∷ map f l)) q
-                  ∙ sym (append_assoc (f k) p (parted p (map f (x ∷ xs))))
-                  ∙ ap₂ (λ (o : Text) (l : List ℕ). (f k ++ o) ++ parted p (map f l)) (sym (if-true _ _ _ (one_more_lem x xs q))) (sym q)
-
-          pub listing_turn : {r : Room} {c' : List ℕ} → Puts (f k ++ (if? b then p else [])) j r c c'
-              → Listing p f t n s₀ s' k' i r a c'
-          unfolding without
-          listing_turn o = record {
-            first = e';
-            within = λ x z. g.within x (and_r _ _ (sym (ap (λ (r : Set). r x) d) ∙ z));
-            part = partly_more (partly_as apart g.part) o;
-          }
+-- nothing stands before the first
+pub listed_end : {p : Text} {f : ℕ → Text} {t : Table} {n : ℕ} {s₀ s : Set} {sep : Text} {i j : Room} {a c : List ℕ}
+    → Listing [] p f t n s₀ s sep i j a c → first_by_name t n s ≡ none → Puts (listed p f t n s₀) i j a c
+unfolding listed
+listed_end {p = p} g h = puts_as (led_by_none p _) (listing_end g h)

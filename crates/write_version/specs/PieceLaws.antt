@@ -1,60 +1,35 @@
 -- Laws of the pieces of a line: what each writer's calls write, one after the other, is the piece.
-use Rattle.std.specs.Prelude.{Bool, List, [], ◌++◌, ◌∷◌, map, ◌≡◌, refl, ◌<◌, ℕ}
+use Rattle.std.specs.Prelude.{Bool, List, [], ◌∷◌, map, ◌≡◌, refl, ℕ}
 use Rattle.std.proofs.lemmas.Simd.{map-map}
 use Rattle.std.proofs.Math.Option.{some}
-use Rattle.std.proofs.Common.{◌∙◌, arith}
+use Rattle.std.proofs.Common.{◌∙◌}
 use Rattle.std.proofs.Math.Path.{ap, ap₂, sym}
 use Rattle.model.specs.Book.{Book, components, facilities, implementation, is_member, member, requires, standard, versions}
 use Rattle.model.specs.Maps.{or_else}
 use Rattle.names.specs.Stored.{table_of, tables_of}
 use Rattle.sets.specs.Sets.{Set}
-use Rattle.sets.specs.TestLaws.{<?_in, <?_out, fails, if-false, if-true}
-use Rattle.sets.specs.Tests.{◌<?◌, if?◌then◌else◌}
+use Rattle.sets.specs.Tests.{if?◌then◌else◌}
 use Rattle.text.specs.Bytes.{Text, bytes, same}
 use Rattle.text.specs.Tables.{Tables, name_at}
 use Rattle.text.specs.Written.{by_name, commas, facility_names, member_piece, members_of, mod_piece, parted, requiring, spec_piece, sys_piece}
 use Rattle.text_laws.specs.TextLaws.{or_at}
-use Rattle.write_bytes.specs.ByName.{first_by_name, first_or, listed}
-use Rattle.write_bytes.specs.ByNameLaws.{head_below}
-use Rattle.write_version.specs.Pieces.{member_text, mod_version, names_of, required_text, spec_version, sys_version, version_of}
+use Rattle.write_bytes.specs.ByName.{listed}
+use Rattle.write_version.specs.Pieces.{led_by, member_text, mod_version, names_led, required_text, spec_version, sys_version, version_of}
 use Rattle.write_bytes.specs.Room.{Puts}
 use Rattle.write_bytes.specs.RoomLaws.{puts_as, puts_then}
 use Rattle.write_version.specs.declared.Kind.{Kind}
 use Rattle.write_version.specs.declared.Kind.TheVariants.{Module, Spec, System}
 use Rattle.write_bytes.specs.declared.Room.{Room}
 
--- a name and a comma
-pub name_and : (b : Bool) {v w : Text} {p q r : Room} {x y z : List ℕ} → v ≡ w → Puts v p q x y
-    → Puts (if? b then bytes ", " else []) q r y z → Puts (w ++ (if? b then bytes ", " else [])) p r x z
-name_and b e f g = puts_then (puts_as e f) g
+led_requiring : (l : List Text) → led_by (bytes " requires ") (bytes ", ") l ≡ requiring l
+unfolding led_by requiring commas
+led_requiring [] = refl
+led_requiring (x ∷ xs) = refl
 
-required_text_lem : (facs : List ℕ) (s : Set) (k : ℕ) → k ≡ first_by_name (table_of facilities facs) facilities s
-    → (if? k <? facilities then bytes " requires " else []) ++ names_of facs facilities s ≡ required_text facs s
-unfolding required_text names_of listed first_by_name first_or requiring commas parted
-required_text_lem facs s k e = by (by_name (table_of facilities facs) facilities s) refl
-  where
-    f : ℕ → Text
-    f i = name_at (table_of facilities facs) i
-
-    by : (l : List ℕ) → by_name (table_of facilities facs) facilities s ≡ l
-        → (if? k <? facilities then bytes " requires " else [])
-        ++ parted (bytes ", ") (map f (by_name (table_of facilities facs) facilities s))
-        ≡ requiring (map f (by_name (table_of facilities facs) facilities s))
-    by [] q =
-        let y : k ≡ facilities = e ∙ ap (first_or facilities) q in
-        ap₂ (λ (g : Text) (l : List ℕ). g ++ parted (bytes ", ") (map f l))
-        (if-false _ _ _ (fails _ (λ z. let h = <?_out _ _ z in absurd (omega arith)))) q
-        ∙ ap (λ (l : List ℕ). requiring (map f l)) (sym q)
-    by (x ∷ xs) q =
-        let y : k ≡ x = e ∙ ap (first_or facilities) q in
-        let h = head_below (table_of facilities facs) facilities s x xs q in
-        ap₂ (λ (g : Text) (l : List ℕ). g ++ parted (bytes ", ") (map f l)) (if-true _ _ _ (<?_in _ _ (omega arith))) q
-        ∙ ap (λ (l : List ℕ). requiring (map f l)) (sym q)
-
-pub required_is : (facs : List ℕ) (s : Set) (k : ℕ) {p q r : Room} {x y z : List ℕ}
-    → k ≡ first_by_name (table_of facilities facs) facilities s → Puts (if? k <? facilities then bytes " requires " else []) p q x y
-    → Puts (names_of facs facilities s) q r y z → Puts (required_text facs s) p r x z
-required_is facs s k e f g = puts_as (required_text_lem facs s k e) (puts_then f g)
+pub required_is : (facs : List ℕ) (s : Set) {p q : Room} {x y : List ℕ} → Puts (names_led (bytes " requires ") facs facilities s) p q x y
+    → Puts (required_text facs s) p q x y
+unfolding names_led required_text
+required_is facs s = puts_as (led_requiring _)
 
 module _ (cs vs fs is : List ℕ) (b : Book) (c v : ℕ) where
   pub spec_version_is : {w u : Text} {k : ℕ} {d : Bool} {s : Set} {p q r t : Room} {x y z o : List ℕ}
@@ -76,14 +51,13 @@ module _ (cs vs fs is : List ℕ) (b : Book) (c v : ℕ) where
   mod_version_is e f g h i j k l =
       puts_then (puts_as e i) (puts_then j (puts_then (puts_as (h ∙ ap (name_at (table_of 256 is)) (g ∙ f)) k) l))
 
-pub member_is : (cs vs fs is : List ℕ) (b : Book) (s v c : ℕ) (more : Bool) {w u : Text} {n : ℕ} {p q r t o : Room}
-    {x y z a d : List ℕ} → w ≡ name_at (table_of components cs) c → member b.systems s v c ≡ some n
+pub member_is : (cs vs fs is : List ℕ) (b : Book) (s v c : ℕ) {w u : Text} {n : ℕ} {p q r t : Room}
+    {x y z a : List ℕ} → w ≡ name_at (table_of components cs) c → member b.systems s v c ≡ some n
     → u ≡ name_at (table_of versions vs) n → Puts w p q x y → Puts (bytes ".") q r y z → Puts u r t z a
-    → Puts (if? more then bytes ", " else []) t o a d
-    → Puts (member_text b (tables_of cs vs fs is) s v c ++ (if? more then bytes ", " else [])) p o x d
+    → Puts (member_text b (tables_of cs vs fs is) s v c) p t x a
 unfolding member_text member_piece tables_of
-member_is cs vs fs is b s v c more e f g h i j k =
-    puts_then (puts_then (puts_as e h) (puts_then i (puts_as (g ∙ ap (name_at (table_of versions vs)) (sym (or_at _ _ f))) j))) k
+member_is cs vs fs is b s v c e f g h i j =
+    puts_then (puts_as e h) (puts_then i (puts_as (g ∙ ap (name_at (table_of versions vs)) (sym (or_at _ _ f))) j))
 
 module _ (cs vs fs is : List ℕ) (b : Book) (c v : ℕ) where
   members_text : commas (map member_piece (members_of b (tables_of cs vs fs is) c v))
@@ -113,8 +87,3 @@ module _ (b : Book) (t : Tables) (c v : ℕ) {k : Kind} {p q : Room} {x y : List
   pub sys_version_lem : k ≡ System → Puts (sys_version b t c v) p q x y → Puts (version_of k b t c v) p q x y
   unfolding version_of
   sys_version_lem e = puts_as (sym (ap (λ (i : Kind). version_of i b t c v) e))
-
-pub version_and : (k : Kind) (b : Book) (t : Tables) (c v : ℕ) (more : Bool) {p q r : Room} {x y z : List ℕ}
-    → Puts (version_of k b t c v) p q x y → Puts (if? more then bytes "; " else []) q r y z
-    → Puts (version_of k b t c v ++ (if? more then bytes "; " else [])) p r x z
-version_and k b t c v more f g = puts_then f g

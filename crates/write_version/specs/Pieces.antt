@@ -1,5 +1,5 @@
 -- The pieces of a line, each by its number in the book.
-use Rattle.std.specs.Prelude.{List, map, ℕ}
+use Rattle.std.specs.Prelude.{List, [], ◌++◌, ◌∷◌, map, ℕ}
 use Rattle.std.proofs.Math.Option.{some}
 use Rattle.model.specs.Book.{Book, facilities, implementation, member, requires, standard}
 use Rattle.model.specs.Maps.{or_else}
@@ -7,10 +7,19 @@ use Rattle.names.specs.Stored.{table_of}
 use Rattle.sets.specs.Sets.{Set}
 use Rattle.text.specs.Bytes.{Text, bytes}
 use Rattle.text.specs.Tables.{Tables, name_at}
-use Rattle.text.specs.Written.{by_name, facility_names, member_piece, members_of, mod_piece, requiring, spec_piece, sys_piece}
+use Rattle.text.specs.Written.{by_name, facility_names, member_piece, members_of, mod_piece, parted, requiring, spec_piece, sys_piece}
 use Rattle.write_bytes.specs.ByName.{listed}
 use Rattle.write_version.specs.declared.Kind.{Kind}
 use Rattle.write_version.specs.declared.Kind.TheVariants.{Module, Spec, System}
+
+-- pieces with the text p between each two, and s before the first
+unfoldable pub led_by : Text → Text → List Text → Text
+led_by s p [] = []
+led_by s p (x ∷ xs) = s ++ parted p (x ∷ xs)
+
+-- the names of the numbers that pass the test, with the text s before the first
+unfoldable pub names_led : Text → List ℕ → ℕ → Set → Text
+names_led s names n test = led_by s (bytes ", ") (map (name_at (table_of n names)) (by_name (table_of n names) n test))
 
 -- the names of the numbers that pass the test
 unfoldable pub names_of : List ℕ → ℕ → Set → Text

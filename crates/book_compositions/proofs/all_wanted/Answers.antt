@@ -1,5 +1,5 @@
 use Rattle.std.proofs.Common.{rules}
-use Rattle.sets.specs.LoopLaws.{all_start, all_turn, all_stop, all_end}
+use Rattle.sets.specs.LoopLaws.{all_start, all_turn, all_stop}
 use Rattle.book_compositions.proofs.all_wanted.Goals as goal
 
 pub loop-m-init : goal.loop-m-init
@@ -10,6 +10,3 @@ returns-then-not-wanted_if c = search (rules, all_stop)
 
 pub loop-m-preserved : goal.loop-m-preserved
 loop-m-preserved c = search (rules, all_turn)
-
-pub returns : goal.returns
-returns c = search (rules, all_end)

@@ -20,8 +20,16 @@ loop-m-preserved c =
     let seen = c.loop-m.invariant.1 in
     let member = c.member.ensures ∙ ap (λ (a : Set). a c.loop-m.m) c.members-members.ensures in (
       omega arith,
-      elim c.if-member.branch [ then-member+else-not-disjoint w ↦ ap bit w.seen-is ∙ provided_more _ _ _ _ _ _ seen member w.if-member.true w.provides-provided.ensures w.union-seen.ensures | else-member w ↦ ap bit w.seen-is ∙ provided_same _ _ _ _ seen member w.if-member.false ],
-      elim c.if-member.branch [ then-member+else-not-disjoint w ↦ apart_turn _ _ _ _ _ _ _ seen w.provides-provided.ensures w.disjoint.ensures (spec_limits_lem _ _).provided< c.loop-m.invariant.2 (ap not w.if-not-disjoint.false) | else-member w ↦ apart-skip _ _ _ _ _ c.loop-m.invariant.2 (sym member ∙ w.if-member.false) ],
+      elim c.if-member.branch [
+        | then-member+else-not-disjoint w ↦ ap bit w.seen-is ∙ provided_more _ _ _ _ _ _ seen member w.if-member.true
+            w.provides-provided.ensures w.union-seen.ensures
+        | else-member w ↦ ap bit w.seen-is ∙ provided_same _ _ _ _ seen member w.if-member.false
+      ],
+      elim c.if-member.branch [
+        | then-member+else-not-disjoint w ↦ apart_turn _ _ _ _ _ _ _ seen w.provides-provided.ensures w.disjoint.ensures
+            (spec_limits_lem _ _).provided< c.loop-m.invariant.2 (ap not w.if-not-disjoint.false)
+        | else-member w ↦ apart-skip _ _ _ _ _ c.loop-m.invariant.2 (sym member ∙ w.if-member.false)
+      ],
     )
 
 pub returns : goal.returns

@@ -3,6 +3,3 @@ use Rattle.book_compositions.proofs.b7_at.Goals as goal
 
 pub returns-clause-value : goal.returns-clause-value
 returns-clause-value c = b7_is _ _ _ _ _ _ _ c.requires.sound c.requires.s_bound.1 c.needs_of-needed.ensures.result_value c.provides.ensures c.union.ensures c.all_wanted.ensures
-
-pub returns-clause-kept_2 : goal.returns-clause-kept_2
-returns-clause-kept_2 c = c.needs_of-needed.ensures.kept_2

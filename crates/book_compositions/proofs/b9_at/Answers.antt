@@ -3,6 +3,3 @@ use Rattle.book_compositions.proofs.b9_at.Goals as goal
 
 pub returns-clause-value : goal.returns-clause-value
 returns-clause-value c = b9_is _ _ _ _ _ _ _ _ c.requires.sound c.requires.s_bound.1 c.needs_of-needed.ensures.result_value c.provided.ensures c.minus-open.ensures c.offered.ensures c.disjoint.ensures
-
-pub returns-clause-kept_2 : goal.returns-clause-kept_2
-returns-clause-kept_2 c = c.needs_of-needed.ensures.kept_2

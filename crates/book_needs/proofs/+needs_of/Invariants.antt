@@ -3,14 +3,14 @@
 use Rattle.std.proofs.Common.{◌≡◌, ◌≤◌}
 use Rattle.sets.specs.Sets.{bit, union_below}
 use Rattle.model_laws.specs.Notions.{systems_below}
-use Rattle.book.specs.Plain.{specs_of, systems_of}
+use Rattle.book.specs.Plain.{plain}
 use Rattle.book_rules.specs.Table.{Kept, member_needs}
 use Rattle.book_needs.proofs.+needs_of.Given as goal
 
 abbrev pub decreases-needs_of : goal.decreases-needs_of
-decreases-needs_of l = systems_below (systems_of l.sets.now l.numbers.now) l.c
+decreases-needs_of l = systems_below (plain l.book.now).systems l.c
 
 abbrev pub invariant-loop-m : goal.invariant-loop-m
 invariant-loop-m l =
-    (l.m ≤ 32) × Kept (specs_of l.sets l.numbers) (systems_of l.sets l.numbers) l.table
-    × (bit l.sum ≡ union_below l.m (member_needs (specs_of l.sets l.numbers) (systems_of l.sets l.numbers) l.c l.v))
+    (l.m ≤ 32) × Kept (plain l.book).specs (plain l.book).systems l.table
+    × (bit l.sum ≡ union_below l.m (member_needs (plain l.book).specs (plain l.book).systems l.c l.v))

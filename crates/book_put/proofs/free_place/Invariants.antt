@@ -4,4 +4,4 @@ use Rattle.model.specs.Book.{versions}
 use Rattle.book_put.proofs.free_place.Given as goal
 
 abbrev pub invariant-loop-j : goal.invariant-loop-j
-invariant-loop-j l = (l.j ≤ 8) × ((k : ℕ) → k < l.j → versions ≤ slots_of l.numbers l.c k → ⊥)
+invariant-loop-j l = (l.j ≤ 8) × ((k : ℕ) → k < l.j → versions ≤ slots_of l.book.numbers l.c k → ⊥)

@@ -1,5 +1,5 @@
 use Rattle.std.proofs.Common.{rules}
-use Rattle.book.specs.PutLaws.{row_none, row_more, row_end}
+use Rattle.book.specs.PutLaws.{row_none, row_more}
 use Rattle.book_put.proofs.put_row.Goals as goal
 
 pub loop-m-init : goal.loop-m-init
@@ -7,6 +7,3 @@ loop-m-init c = search (rules, row_none)
 
 pub loop-m-preserved : goal.loop-m-preserved
 loop-m-preserved c = search (rules, row_more)
-
-pub returns : goal.returns
-returns c = search (rules, row_end)

@@ -16,7 +16,11 @@ pub loop-v-preserved : goal.loop-v-preserved
 loop-v-preserved c =
     let blanked = c.put_blank.ensures in (
       omega arith,
-      elim c.if-member.branch [ then-member w ↦ rw (w.sets-is, w.numbers-is) (spec_in_lem _ _ _ _ _ _ _ _ _ c.requires.0 blanked _ _ _ c.loop-v.invariant.1 _ _ _ c.member.ensures w.if-member.true w.below_64.ensures w.put_version.ensures) | else-member w ↦ rw (w.sets-is, w.numbers-is) (spec_out _ _ _ _ _ _ _ _ _ c.requires.0 blanked _ _ _ c.loop-v.invariant.1 c.member.ensures w.if-member.false) ],
+      elim c.if-member.branch [
+        | then-member w ↦ rw w.book-is (spec_in_lem _ _ _ _ _ _ _ _ _ c.requires.0 blanked _ _ _ c.loop-v.invariant.1 _ _ _
+            c.member.ensures w.if-member.true w.below_64.ensures w.put_version.ensures)
+        | else-member w ↦ rw w.book-is (spec_out _ _ _ _ _ _ _ _ _ c.requires.0 blanked _ _ _ c.loop-v.invariant.1 c.member.ensures w.if-member.false)
+      ],
     )
 
 pub returns : goal.returns

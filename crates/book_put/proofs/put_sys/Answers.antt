@@ -1,17 +1,17 @@
-use Rattle.std.proofs.Common.{rules, arith}
-use Rattle.book_put.specs.SystemLaws.{composed_start, composed_hit, composed_miss, system_put}
+use Rattle.std.proofs.Common.{arith}
+use Rattle.book_put.specs.SystemLaws.{composed_hit, composed_miss, system_put}
 use Rattle.book_put.proofs.put_sys.Goals as goal
 use Rattle.book_put.proofs.put_sys.Goals.{else-v-lt64, then-v-lt64}
-
-pub loop-j-init : goal.loop-j-init
-loop-j-init c = (search rules, search (rules, composed_start))
 
 pub loop-j-preserved : goal.loop-j-preserved
 loop-j-preserved c =
     let taken = c.loop-j-test.true in
     let low = c.requires.takes_definition.0.component< in (
       omega arith,
-      elim c.if-v-lt64.branch [ then-v-lt64 w ↦ rw (w.sets-is, w.numbers-is) (composed_hit _ _ _ _ _ low _ _ _ taken c.loop-j.invariant.1 c.wide-v.ensures w.if-v-lt64.true w.put_row.ensures) | else-v-lt64 w ↦ rw (w.sets-is, w.numbers-is) (composed_miss _ _ _ _ _ low _ _ _ taken c.loop-j.invariant.1 c.wide-v.ensures w.if-v-lt64.false) ],
+      elim c.if-v-lt64.branch [
+        | then-v-lt64 w ↦ rw w.book-is (composed_hit _ _ _ _ _ low _ _ _ taken c.loop-j.invariant.1 c.from-v.ensures w.if-v-lt64.true w.put_row.ensures)
+        | else-v-lt64 w ↦ rw w.book-is (composed_miss _ _ _ _ _ low _ _ _ taken c.loop-j.invariant.1 c.from-v.ensures w.if-v-lt64.false)
+      ],
     )
 
 pub returns : goal.returns

@@ -1,5 +1,5 @@
 use Rattle.std.proofs.Common.{rules}
-use Rattle.sets.specs.LoopLaws.{all_start, all_turn, all_stop, all_end}
+use Rattle.sets.specs.LoopLaws.{all_start, all_turn, all_stop}
 use Rattle.book_rules.proofs.all_own_free.Goals as goal
 
 pub loop-v-init : goal.loop-v-init
@@ -10,6 +10,3 @@ returns-then-not-own_free c = search (rules, all_stop)
 
 pub loop-v-preserved : goal.loop-v-preserved
 loop-v-preserved c = search (rules, all_turn)
-
-pub returns : goal.returns
-returns c = search (rules, all_end)

@@ -13,7 +13,10 @@ loop-c-preserved c =
     let so_far = c.loop-c.invariant.1 in
     let tested = c.is_specified.ensures in (
       omega arith,
-      elim c.if-is_specified.branch [ then-is_specified w ↦ ap bit w.found-is ∙ collect_hit _ _ _ so_far tested _ w.if-is_specified.true w.with-found.ensures | else-is_specified w ↦ ap bit w.found-is ∙ collect_miss _ _ _ so_far tested w.if-is_specified.false ],
+      elim c.if-is_specified.branch [
+        | then-is_specified w ↦ ap bit w.found-is ∙ collect_hit _ _ _ so_far tested _ w.if-is_specified.true w.with-found.ensures
+        | else-is_specified w ↦ ap bit w.found-is ∙ collect_miss _ _ _ so_far tested w.if-is_specified.false
+      ],
     )
 
 pub returns : goal.returns

@@ -14,17 +14,11 @@ returns-then-not-b5 c = no_5 _ c.b5.ensures.value (ap not c.if-not-b5.true)
 pub b6-requires-clause-sound : goal.b6-requires-clause-sound
 b6-requires-clause-sound c = sound _ _ c.requires (is_yes _ c.b5.ensures.value (ap not c.if-not-b5.false))
 
-pub b6-requires-clause-kept : goal.b6-requires-clause-kept
-b6-requires-clause-kept c = c.b5.ensures.kept
-
 pub returns-then-not-b6 : goal.returns-then-not-b6
 returns-then-not-b6 c = no_6 _ c.b5.ensures.value (ap not c.if-not-b5.false) c.b6.ensures.value (ap not c.if-not-b6.true)
 
 pub b7-requires-clause-sound : goal.b7-requires-clause-sound
 b7-requires-clause-sound c = sound _ _ c.requires (is_yes _ c.b5.ensures.value (ap not c.if-not-b5.false))
-
-pub b7-requires-clause-kept : goal.b7-requires-clause-kept
-b7-requires-clause-kept c = c.b6.ensures.kept_2
 
 pub returns-then-not-b7 : goal.returns-then-not-b7
 returns-then-not-b7 c = no_7 _ c.b5.ensures.value (ap not c.if-not-b5.false) c.b6.ensures.value (ap not c.if-not-b6.false) c.b7.ensures.value (ap not c.if-not-b7.true)
@@ -32,17 +26,11 @@ returns-then-not-b7 c = no_7 _ c.b5.ensures.value (ap not c.if-not-b5.false) c.b
 pub b8-requires-clause-sound : goal.b8-requires-clause-sound
 b8-requires-clause-sound c = sound _ _ c.requires (is_yes _ c.b5.ensures.value (ap not c.if-not-b5.false))
 
-pub b8-requires-clause-kept : goal.b8-requires-clause-kept
-b8-requires-clause-kept c = c.b7.ensures.kept_2
-
 pub returns-then-not-b8 : goal.returns-then-not-b8
 returns-then-not-b8 c = no_8 _ c.b5.ensures.value (ap not c.if-not-b5.false) c.b6.ensures.value (ap not c.if-not-b6.false) c.b7.ensures.value (ap not c.if-not-b7.false) c.b8.ensures.value (ap not c.if-not-b8.true)
 
 pub b9-requires-clause-sound : goal.b9-requires-clause-sound
 b9-requires-clause-sound c = sound _ _ c.requires (is_yes _ c.b5.ensures.value (ap not c.if-not-b5.false))
-
-pub b9-requires-clause-kept : goal.b9-requires-clause-kept
-b9-requires-clause-kept c = c.b8.ensures.kept_2
 
 pub returns : goal.returns
 returns c = last_9 _ c.b5.ensures.value (ap not c.if-not-b5.false) c.b6.ensures.value (ap not c.if-not-b6.false) c.b7.ensures.value (ap not c.if-not-b7.false) c.b8.ensures.value (ap not c.if-not-b8.false) c.b9.ensures.value

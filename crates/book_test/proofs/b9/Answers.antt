@@ -1,9 +1,7 @@
-use Rattle.std.proofs.Common.{◌∙◌}
-use Rattle.book_rules.specs.TestLaws.{B9_is}
+use Rattle.model.specs.Rules.{B9, each_composition}
+use Rattle.book_test.specs.Rules.{rule_at}
 use Rattle.book_test.proofs.b9.Goals as goal
 
 pub returns-clause-value : goal.returns-clause-value
-returns-clause-value c = c.rule.ensures.value ∙ B9_is _ _
-
-pub returns-clause-kept_2 : goal.returns-clause-kept_2
-returns-clause-kept_2 c = c.rule.ensures.kept_2
+unfolding B9 each_composition rule_at
+returns-clause-value c = c.rule_of_book.ensures.value

@@ -1,5 +1,5 @@
 use Rattle.std.proofs.Common.{rules}
-use Rattle.sets.specs.LoopLaws.{all_start, all_turn, all_stop, all_end}
+use Rattle.sets.specs.LoopLaws.{all_start, all_turn, all_stop}
 use Rattle.book_test.proofs.none_specified.Goals as goal
 
 pub loop-c-init : goal.loop-c-init
@@ -10,6 +10,3 @@ returns-then-not-is_unspecified c = search (rules, all_stop)
 
 pub loop-c-preserved : goal.loop-c-preserved
 loop-c-preserved c = search (rules, all_turn)
-
-pub returns : goal.returns
-returns c = search (rules, all_end)

@@ -4,6 +4,3 @@ use Rattle.book_test.proofs.passes.Goals as goal
 
 pub returns-then-none_specified : goal.returns-then-none_specified
 returns-then-none_specified c = sym (none_passes _ _ (sym c.none_specified.ensures ∙ c.if-none_specified.true))
-
-pub returns : goal.returns
-returns c = c.passes_each.ensures

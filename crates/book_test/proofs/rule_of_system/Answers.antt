@@ -1,6 +1,6 @@
 use Rattle.std.specs.Prelude.{not}
 use Rattle.std.proofs.Common.{rules, arith, ap}
-use Rattle.book_rules.specs.TestLaws.{no_system_passes, is_yes}
+use Rattle.book_rules.specs.TestLaws.{no_system_passes}
 use Rattle.book_rules.specs.CompositionLaws.{of_system}
 use Rattle.sets.specs.LoopLaws.{all_start, all_turn, all_stop, all_end}
 use Rattle.book_test.proofs.rule_of_system.Goals as goal
@@ -8,31 +8,12 @@ use Rattle.book_test.proofs.rule_of_system.Goals as goal
 pub returns-then-not-is_system-clause-value : goal.returns-then-not-is_system-clause-value
 returns-then-not-is_system-clause-value c = no_system_passes _ _ _ c.is_system.ensures (ap not c.if-not-is_system.true)
 
-pub returns-then-not-is_system-clause-kept_2 : goal.returns-then-not-is_system-clause-kept_2
-returns-then-not-is_system-clause-kept_2 c = c.requires.kept
-
 pub loop-v-init : goal.loop-v-init
 loop-v-init c = (search rules, c.requires.kept, all_start _)
-
-pub rule_if-requires-clause-s_bound : goal.rule_if-requires-clause-s_bound
-rule_if-requires-clause-s_bound c = (c.requires.s_bound, c.loop-v-test.true, is_yes _ c.is_system.ensures (ap not c.if-not-is_system.false))
-
-pub rule_if-requires-clause-versions_value : goal.rule_if-requires-clause-versions_value
-rule_if-requires-clause-versions_value c = c.versions-versions.ensures
-
-pub rule_if-requires-clause-sound : goal.rule_if-requires-clause-sound
-rule_if-requires-clause-sound c = c.requires.sound
-
-pub rule_if-requires-clause-kept : goal.rule_if-requires-clause-kept
-rule_if-requires-clause-kept c = c.loop-v.invariant.1
 
 pub returns-then-not-rule_if-clause-value : goal.returns-then-not-rule_if-clause-value
 unfolding of_system
 returns-then-not-rule_if-clause-value c = all_stop _ _ _ c.loop-v-test.true c.rule_if.ensures.value (ap not c.if-not-rule_if.true)
-
-pub returns-then-not-rule_if-clause-kept_2 : goal.returns-then-not-rule_if-clause-kept_2
-unfolding of_system
-returns-then-not-rule_if-clause-kept_2 c = c.rule_if.ensures.kept_2
 
 pub loop-v-preserved : goal.loop-v-preserved
 loop-v-preserved c = (omega arith, c.rule_if.ensures.kept_2, all_turn _ _ c.loop-v.invariant.2 c.rule_if.ensures.value (ap not c.if-not-rule_if.false))
@@ -40,7 +21,3 @@ loop-v-preserved c = (omega arith, c.rule_if.ensures.kept_2, all_turn _ _ c.loop
 pub returns-clause-value : goal.returns-clause-value
 unfolding of_system
 returns-clause-value c = all_end _ _ _ c.loop-v.invariant.0 c.loop-v-test.false c.loop-v.invariant.2
-
-pub returns-clause-kept_2 : goal.returns-clause-kept_2
-unfolding of_system
-returns-clause-kept_2 c = c.loop-v.invariant.1

@@ -1,9 +1,13 @@
 use Rattle.std.proofs.Common.{◌≤◌, ◌≡◌, true}
-use Rattle.book_rules.specs.CompositionLaws.{if_composed, rule_at}
-use Rattle.book.specs.Plain.{specs_of, systems_of}
+use Rattle.book_rules.specs.CompositionLaws.{if_composed}
+use Rattle.book_test.specs.Rules.{rule_at}
+use Rattle.book.specs.Plain.{plain}
 use Rattle.book_rules.specs.Table.{Kept}
 use Rattle.sets.specs.Tests.{all}
 use Rattle.book_test.proofs.rule_of_system.Given as goal
 
 abbrev pub invariant-loop-v : goal.invariant-loop-v
-invariant-loop-v l = (l.v ≤ 64) × Kept (specs_of l.sets l.numbers) (systems_of l.sets l.numbers) l.table × (all l.v (if_composed (systems_of l.sets l.numbers) (rule_at l.k (specs_of l.sets l.numbers) (systems_of l.sets l.numbers)) l.s) ≡ true)
+invariant-loop-v l =
+    (l.v ≤ 64)
+    × Kept (plain l.book).specs (plain l.book).systems l.table
+    × (all l.v (if_composed (plain l.book).systems (rule_at l.which (plain l.book).specs (plain l.book).systems) l.s) ≡ true)

@@ -4,8 +4,8 @@ use Rattle.command_add.specs.AddLaws.{mod_answers, mod_component, mod_holds, mod
 use Rattle.book_rules.specs.TestLaws.{passes-proper, passes_plain}
 use Rattle.command_add.proofs.add_mod_in.Goals as goal
 
-pub returns-then-answer-ne0 : goal.returns-then-answer-ne0
-returns-then-answer-ne0 c = λ is e. refuse_any _ _ _ c.requires _ (c.mod_answer-answer.ensures ∙ sym (mod_answers _ _ _ is e)) c.if-answer-ne0.true
+pub returns-then-answer-ne0-clause-called : goal.returns-then-answer-ne0-clause-called
+returns-then-answer-ne0-clause-called c = λ is e. refuse_any _ _ _ c.requires _ (c.mod_answer-answer.ensures ∙ sym (mod_answers _ _ _ is e)) c.if-answer-ne0.true
 
 pub put_mod-requires : goal.put_mod-requires
 put_mod-requires c =
@@ -16,5 +16,5 @@ put_mod-requires c =
       is_undefined = mod_undefined _ _ _ (sym c.mod_answer-answer.ensures ∙ c.if-answer-ne0.false);
     }
 
-pub returns : goal.returns
-returns c = λ is e. accept _ _ _ c.requires (mod_answers _ _ _ is e ∙ (sym c.mod_answer-answer.ensures ∙ c.if-answer-ne0.false)) (mod_holds _ _ _ is e (sym c.mod_answer-answer.ensures ∙ c.if-answer-ne0.false) (passes_plain _ _ c.requires) (search rules) c.put_mod.ensures)
+pub returns-clause-called : goal.returns-clause-called
+returns-clause-called c = λ is e. accept _ _ _ c.requires (mod_answers _ _ _ is e ∙ (sym c.mod_answer-answer.ensures ∙ c.if-answer-ne0.false)) (mod_holds _ _ _ is e (sym c.mod_answer-answer.ensures ∙ c.if-answer-ne0.false) (passes_plain _ _ c.requires) (search rules) c.put_mod.ensures.holds)

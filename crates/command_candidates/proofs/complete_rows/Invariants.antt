@@ -5,4 +5,4 @@ use Rattle.command_candidates.specs.Completed.{rows_completed}
 use Rattle.command_candidates.proofs.complete_rows.Given as goal
 
 abbrev pub invariant-loop-v : goal.invariant-loop-v
-invariant-loop-v l = (l.v ≤ 64) × (l.rows ≡ rows_completed (plain_of l.sets l.numbers).specs l.initial.rows (bit l.listed) l.v)
+invariant-loop-v l = (l.v ≤ 64) × (l.rows ≡ rows_completed (plain_of l.book.sets l.book.numbers).specs l.initial.rows (bit l.listed) l.v)

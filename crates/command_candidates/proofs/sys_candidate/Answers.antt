@@ -11,5 +11,5 @@ put_sys-requires-clause-by_index c = members_small _ _ _ _ _ c.requires.numbers_
 
 pub returns : goal.returns
 returns c us ks eu ek =
-    sys_candidate_is _ _ _ _ _ c.requires.numbers_value c.requires.g_value (search rules) _ _ c.low_members-members.ensures (search (rules, c.well_formed.1.1.1.1.0)) c.complete_rows.ensures _
+    sys_candidate_is _ _ _ _ _ c.requires.numbers_value c.requires.g_value (search rules) _ _ c.low_members-members.ensures (search (rules, c.well_formed.1.1.1.0)) c.complete_rows.ensures _
     c.below_32.ensures us eu _ _ c.put_sys.ensures

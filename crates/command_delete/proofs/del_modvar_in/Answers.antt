@@ -5,31 +5,31 @@ use Rattle.command_delete.specs.DeleteLaws.{modvar_out, out_1, out_1v, out_kind,
 use Rattle.book_rules.specs.TestLaws.{passes-proper, is_yes}
 use Rattle.command_delete.proofs.del_modvar_in.Goals as goal
 
-pub returns-then-c-ge32 : goal.returns-then-c-ge32
-returns-then-c-ge32 c = refuse _ _ _ c.requires 0 (modvar_out _ _ _ ∙ out_1 _ _ _ _ _ c.if-c-ge32.true)
+pub returns-then-c-ge32-clause-called : goal.returns-then-c-ge32-clause-called
+returns-then-c-ge32-clause-called c = refuse _ _ _ c.requires 0 (modvar_out _ _ _ ∙ out_1 _ _ _ _ _ c.if-c-ge32.true)
 
-pub returns-then-v-ge64 : goal.returns-then-v-ge64
-returns-then-v-ge64 c = refuse _ _ _ c.requires 0 (modvar_out _ _ _ ∙ out_1v _ _ _ _ _ (omega (arith, c.if-c-ge32.false)) c.if-v-ge64.true)
+pub returns-then-v-ge64-clause-called : goal.returns-then-v-ge64-clause-called
+returns-then-v-ge64-clause-called c = refuse _ _ _ c.requires 0 (modvar_out _ _ _ ∙ out_1v _ _ _ _ _ (omega (arith, c.if-c-ge32.false)) c.if-v-ge64.true)
 
-pub returns-then-not-is_module : goal.returns-then-not-is_module
-returns-then-not-is_module c =
+pub returns-then-not-is_module-clause-called : goal.returns-then-not-is_module-clause-called
+returns-then-not-is_module-clause-called c =
     refuse _ _ _ c.requires 5
     (modvar_out _ _ _ ∙ out_kind _ _ _ _ _ (omega (arith, c.if-c-ge32.false)) (omega (arith, c.if-v-ge64.false)) c.is_module.ensures (ap not c.if-not-is_module.true))
 
-pub returns-then-not-has_version : goal.returns-then-not-has_version
-returns-then-not-has_version c =
+pub returns-then-not-has_version-clause-called : goal.returns-then-not-has_version-clause-called
+returns-then-not-has_version-clause-called c =
     refuse _ _ _ c.requires 9
     (modvar_out _ _ _ ∙ out_10 _ _ _ _ _ (omega (arith, c.if-c-ge32.false)) (omega (arith, c.if-v-ge64.false)) c.is_module.ensures (ap not c.if-not-is_module.false)
     c.has_version.ensures (ap not c.if-not-has_version.true))
 
-pub returns-then-standard-v : goal.returns-then-standard-v
-returns-then-standard-v c =
+pub returns-then-standard-v-clause-called : goal.returns-then-standard-v-clause-called
+returns-then-standard-v-clause-called c =
     refuse _ _ _ c.requires 14
     (modvar_out _ _ _ ∙ out_15 _ _ _ _ _ (omega (arith, c.if-c-ge32.false)) (omega (arith, c.if-v-ge64.false)) c.is_module.ensures (ap not c.if-not-is_module.false)
     c.has_version.ensures (ap not c.if-not-has_version.false) _ c.standard.ensures c.if-standard-v.true)
 
-pub returns-then-not-held_by_none : goal.returns-then-not-held_by_none
-returns-then-not-held_by_none c =
+pub returns-then-not-held_by_none-clause-called : goal.returns-then-not-held_by_none-clause-called
+returns-then-not-held_by_none-clause-called c =
     refuse _ _ _ c.requires 17
     (modvar_out _ _ _ ∙ out_18 _ _ _ _ _ (omega (arith, c.if-c-ge32.false)) (omega (arith, c.if-v-ge64.false)) c.is_module.ensures (ap not c.if-not-is_module.false)
     c.has_version.ensures (ap not c.if-not-has_version.false) _ c.standard.ensures c.if-standard-v.false
@@ -46,9 +46,9 @@ take_modvar-requires-clause-holds_version c =
 pub take_modvar-requires-clause-c_value : goal.take_modvar-requires-clause-c_value
 take_modvar-requires-clause-c_value c = is_yes _ c.is_module.ensures (ap not c.if-not-is_module.false)
 
-pub returns : goal.returns
-returns c =
+pub returns-clause-called : goal.returns-clause-called
+returns-clause-called c =
     accept _ _ _ c.requires
     (modvar_out _ _ _ ∙ out_0 _ _ _ _ _ (omega (arith, c.if-c-ge32.false)) (omega (arith, c.if-v-ge64.false)) c.is_module.ensures (ap not c.if-not-is_module.false)
     c.has_version.ensures (ap not c.if-not-has_version.false) _ c.standard.ensures c.if-standard-v.false
-    c.held_by_none.ensures (ap not c.if-not-held_by_none.false)) c.take_modvar.ensures
+    c.held_by_none.ensures (ap not c.if-not-held_by_none.false)) c.take_modvar.ensures.holds

@@ -5,11 +5,11 @@ use Rattle.command_delete.specs.DeleteLaws.{del_sys_1, del_sys_7, del_sys_21, de
 use Rattle.book_rules.specs.TestLaws.{passes-proper, passes_plain, is_yes}
 use Rattle.command_delete.proofs.del_sys_in.Goals as goal
 
-pub returns-then-c-ge32 : goal.returns-then-c-ge32
-returns-then-c-ge32 c = refuse _ _ _ c.requires 0 (del_sys_1 _ _ c.if-c-ge32.true)
+pub returns-then-c-ge32-clause-called : goal.returns-then-c-ge32-clause-called
+returns-then-c-ge32-clause-called c = refuse _ _ _ c.requires 0 (del_sys_1 _ _ c.if-c-ge32.true)
 
-pub returns-then-not-is_system : goal.returns-then-not-is_system
-returns-then-not-is_system c =
+pub returns-then-not-is_system-clause-called : goal.returns-then-not-is_system-clause-called
+returns-then-not-is_system-clause-called c =
     refuse _ _ _ c.requires 6
     (del_sys_7 _ _ (omega (arith, c.if-c-ge32.false)) c.is_system.ensures (ap not c.if-not-is_system.true))
 
@@ -20,16 +20,16 @@ pub take_sys-requires-clause-s_value : goal.take_sys-requires-clause-s_value
 take_sys-requires-clause-s_value c = is_yes _ c.is_system.ensures (ap not c.if-not-is_system.false)
 
 pub b5_to_b9-requires : goal.b5_to_b9-requires
-b5_to_b9-requires c = del_sys_B4 _ _ _ (passes_plain _ _ c.requires) c.take_sys.ensures.is
+b5_to_b9-requires c = del_sys_B4 _ _ _ (passes_plain _ _ c.requires) c.take_sys.ensures.holds.is
 
-pub returns-then-not-b5_to_b9 : goal.returns-then-not-b5_to_b9
-returns-then-not-b5_to_b9 c =
+pub returns-then-not-b5_to_b9-clause-called : goal.returns-then-not-b5_to_b9-clause-called
+returns-then-not-b5_to_b9-clause-called c =
     refuse _ _ _ c.requires 20
     (del_sys_21 _ _ _ (omega (arith, c.if-c-ge32.false)) c.is_system.ensures (ap not c.if-not-is_system.false)
-    c.take_sys.ensures.is c.b5_to_b9.ensures (ap not c.if-not-b5_to_b9.true))
+    c.take_sys.ensures.holds.is c.b5_to_b9.ensures (ap not c.if-not-b5_to_b9.true))
 
-pub returns : goal.returns
-returns c =
+pub returns-clause-called : goal.returns-clause-called
+returns-clause-called c =
     accept _ _ _ c.requires
     (del_sys_0 _ _ _ (omega (arith, c.if-c-ge32.false)) c.is_system.ensures (ap not c.if-not-is_system.false)
-    c.take_sys.ensures.is c.b5_to_b9.ensures (ap not c.if-not-b5_to_b9.false)) c.take_sys.ensures
+    c.take_sys.ensures.holds.is c.b5_to_b9.ensures (ap not c.if-not-b5_to_b9.false)) c.take_sys.ensures.holds

@@ -1,4 +1,4 @@
-use Rattle.std.proofs.Common.{◌-◌, length}
+use Rattle.std.proofs.Common.{length}
 use mathlib.Core.Option.{none}
 use Rattle.model.specs.Book.{components}
 use Rattle.command_lists.specs.Said.{always, is_version_or_none, itself, version_said}
@@ -6,8 +6,5 @@ use Rattle.command_slices.specs.SliceLaws.{PairsLeft}
 use Rattle.command_lists.specs.Views.{composition_view}
 use Rattle.command_slices.proofs.composition_of.Given as goal
 
-abbrev pub invariant-loop-i : goal.invariant-loop-i
-invariant-loop-i l = PairsLeft components is_version_or_none always always itself none version_said composition_view l.members l.versions l.i l.g
-
-abbrev pub decreases-loop-i : goal.decreases-loop-i
-decreases-loop-i l = length l.members - l.i
+abbrev pub invariant-loop-m : goal.invariant-loop-m
+invariant-loop-m l = PairsLeft components is_version_or_none always always itself none version_said composition_view l.members l.versions (length l.yielded) l.g

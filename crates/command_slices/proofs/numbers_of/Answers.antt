@@ -1,23 +1,26 @@
-use Rattle.std.proofs.Common.{rules}
+use Rattle.std.proofs.Common.{rules, length-append}
+use Rattle.std.proofs.lemmas.Slice.Zip.{zip_turn, zip_end}
 use Rattle.command_lists.specs.Said.{implementations_said, itself, numbers_of, numbers_step}
-use Rattle.command_slices.specs.SliceLaws.{pairs_start, pairs_turn, pairs_first, pairs_second, pairs_end}
+use Rattle.command_slices.specs.SliceLaws.{pairs_start, pairs_turn, pairs_differ, pairs_end}
 use Rattle.command_slices.proofs.numbers_of.Goals as goal
 
-pub loop-i-init : goal.loop-i-init
-loop-i-init c = search (rules, pairs_start)
+pub loop-v-init : goal.loop-v-init
+loop-v-init c = search (rules, pairs_start)
 
-pub returns-then-implementations-i : goal.returns-then-implementations-i
-unfolding numbers_of implementations_said numbers_step itself
-returns-then-implementations-i c = pairs_first _ _ _ _ _ _ _ _ c.args.versions.now c.args.implementations.now c.loop-i.i _ c.loop-i.invariant _ c.loop-i-test.true c.if-implementations-i.true c.with_number.ensures
-
-pub loop-i-preserved : goal.loop-i-preserved
+pub loop-v-preserved : goal.loop-v-preserved
 unfolding numbers_step itself
-loop-i-preserved c = pairs_turn _ _ _ _ _ _ _ _ c.args.versions.now c.args.implementations.now c.loop-i.i _ c.loop-i.invariant _ c.loop-i-test.true c.if-implementations-i.false c.with_number-g.ensures
+loop-v-preserved c =
+    let t = zip_turn c.args.versions.now c.args.implementations.now c.loop-v.yielded c.into_iter-v-iterator.result c.loop-v.v-iterator c.next.new.self c.next.result (search rules) (search rules) c.loop-v.yielded_by _ c.in-Some.is c.next.ensures.steps in
+    pairs_turn _ _ _ _ _ _ _ _ _ _ _ _ c.loop-v.invariant _ _ _ _ (length-append _ _) t.0 t.1 (t.2 0) (t.3 0) c.with_number-g.ensures
 
-pub returns-then-i-implementations : goal.returns-then-i-implementations
+pub returns-then-versions-implementations : goal.returns-then-versions-implementations
 unfolding numbers_of implementations_said numbers_step itself
-returns-then-i-implementations c = pairs_second _ _ _ _ _ _ _ _ c.args.versions.now c.args.implementations.now c.loop-i.i _ c.loop-i.invariant _ c.loop-i-test.false c.if-i-implementations.true c.with_number-then-i-implementations.ensures
+returns-then-versions-implementations c =
+    let e = zip_end c.args.versions.now c.args.implementations.now c.loop-v.yielded c.into_iter-v-iterator.result c.loop-v.v-iterator c.next.new.self c.next.result (search rules) (search rules) c.loop-v.yielded_by c.in-None.is c.next.ensures.steps in
+    pairs_differ _ _ _ _ _ _ _ _ _ _ _ _ c.loop-v.invariant _ e c.if-versions-implementations.true c.with_number.ensures
 
 pub returns : goal.returns
 unfolding numbers_of implementations_said
-returns c = pairs_end _ _ _ _ _ _ _ _ c.args.versions.now c.args.implementations.now c.loop-i.i _ c.loop-i.invariant c.loop-i-test.false c.if-i-implementations.false
+returns c =
+    let e = zip_end c.args.versions.now c.args.implementations.now c.loop-v.yielded c.into_iter-v-iterator.result c.loop-v.v-iterator c.next.new.self c.next.result (search rules) (search rules) c.loop-v.yielded_by c.in-None.is c.next.ensures.steps in
+    pairs_end _ _ _ _ _ _ _ _ _ _ _ _ c.loop-v.invariant e c.if-versions-implementations.false

@@ -1,24 +1,26 @@
-use Rattle.std.proofs.Common.{rules, []}
+use Rattle.std.proofs.Common.{rules, [], length, length-append}
+use Rattle.std.proofs.lemmas.Slice.Zip.{zip_turn, zip_end}
 use Rattle.command_lists.specs.Said.{facilities_said, requirements_said, sets_of, sets_step}
-use Rattle.command_slices.specs.SliceLaws.{pairs_start, pairs_turn, pairs_first, pairs_second}
-use Rattle.command_slices.specs.SliceLaws.{pairs_end, none_below, none-set, said_below, said_set}
+use Rattle.command_slices.specs.SliceLaws.{pairs_start, pairs_turn, pairs_differ, pairs_end, none_below, none-set, said_below, said_set}
 use Rattle.command_slices.proofs.sets_of.Goals as goal
 
-pub loop-i-init : goal.loop-i-init
-loop-i-init c = search (rules, pairs_start)
+pub loop-v-init : goal.loop-v-init
+loop-v-init c = search (rules, pairs_start)
 
-pub returns-then-required-i : goal.returns-then-required-i
-unfolding sets_of requirements_said sets_step
-returns-then-required-i c = pairs_first _ _ _ _ _ _ _ _ c.args.versions.now c.args.required.now c.loop-i.i _ c.loop-i.invariant _ c.loop-i-test.true c.if-required-i.true (c.with_set.ensures [] none_below none-set)
-
-pub loop-i-preserved : goal.loop-i-preserved
+pub loop-v-preserved : goal.loop-v-preserved
 unfolding sets_step
-loop-i-preserved c = pairs_turn _ _ _ _ _ _ _ _ c.args.versions.now c.args.required.now c.loop-i.i _ c.loop-i.invariant _ c.loop-i-test.true c.if-required-i.false (c.with_set-g.ensures (facilities_said _) (said_below _) (said_set _ (c.type_inv.required c.loop-i.i).fits))
+loop-v-preserved c =
+    let t = zip_turn c.args.versions.now c.args.required.now c.loop-v.yielded c.into_iter-v-iterator.result c.loop-v.v-iterator c.next.new.self c.next.result (search rules) (search rules) c.loop-v.yielded_by _ c.in-Some.is c.next.ensures.steps in
+    pairs_turn _ _ _ _ _ _ _ _ _ _ _ _ c.loop-v.invariant _ _ _ _ (length-append _ _) t.0 t.1 (t.2 0) (t.3 0) (c.with_set-g.ensures (facilities_said _) (said_below _) (said_set _ (rw (t.3 0) (c.type_inv.required (length c.loop-v.yielded)).fits)))
 
-pub returns-then-i-required : goal.returns-then-i-required
+pub returns-then-versions-required : goal.returns-then-versions-required
 unfolding sets_of requirements_said sets_step
-returns-then-i-required c = pairs_second _ _ _ _ _ _ _ _ c.args.versions.now c.args.required.now c.loop-i.i _ c.loop-i.invariant _ c.loop-i-test.false c.if-i-required.true (c.with_set-then-i-required.ensures [] none_below none-set)
+returns-then-versions-required c =
+    let e = zip_end c.args.versions.now c.args.required.now c.loop-v.yielded c.into_iter-v-iterator.result c.loop-v.v-iterator c.next.new.self c.next.result (search rules) (search rules) c.loop-v.yielded_by c.in-None.is c.next.ensures.steps in
+    pairs_differ _ _ _ _ _ _ _ _ _ _ _ _ c.loop-v.invariant _ e c.if-versions-required.true (c.with_set.ensures [] none_below none-set)
 
 pub returns : goal.returns
 unfolding sets_of requirements_said
-returns c = pairs_end _ _ _ _ _ _ _ _ c.args.versions.now c.args.required.now c.loop-i.i _ c.loop-i.invariant c.loop-i-test.false c.if-i-required.false
+returns c =
+    let e = zip_end c.args.versions.now c.args.required.now c.loop-v.yielded c.into_iter-v-iterator.result c.loop-v.v-iterator c.next.new.self c.next.result (search rules) (search rules) c.loop-v.yielded_by c.in-None.is c.next.ensures.steps in
+    pairs_end _ _ _ _ _ _ _ _ _ _ _ _ c.loop-v.invariant e c.if-versions-required.false

@@ -15,4 +15,4 @@ add_mod_in-answer-requires c = is_yes _ c.passes.ensures (ap not c.if-not-passes
 
 pub returns : goal.returns
 unfolding command_of
-returns c = c.add_mod_in-answer.ensures (implementations_said _ _) c.numbers_of-g.ensures
+returns c = c.add_mod_in-answer.ensures.called (implementations_said _ _) c.numbers_of-g.ensures

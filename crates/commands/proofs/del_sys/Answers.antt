@@ -12,4 +12,4 @@ pub del_sys_in-answer-requires : goal.del_sys_in-answer-requires
 del_sys_in-answer-requires c = is_yes _ c.passes.ensures (ap not c.if-not-passes.false)
 
 pub returns : goal.returns
-returns c = c.del_sys_in-answer.ensures
+returns c = c.del_sys_in-answer.ensures.called

@@ -16,10 +16,10 @@ member_version-w-requires-clause-m_value t c = is_member_lem _ _ _ _ _ c.members
 
 pub mark-requires : goal.mark-requires
 mark-requires t c = (
-  walk_falls (plain_of c.args.sets.now c.args.numbers.now) c.requires.good _ _ _ _ _ c.decreases
+  walk_falls (plain_of c.args.book.now.sets c.args.book.now.numbers) c.requires.good _ _ _ _ _ c.decreases
       c.members-members.ensures c.member-in-loop-m.ensures c.if-member-2.true,
   (
-    walk_limits (plain_of c.args.sets.now c.args.numbers.now) c.requires.good _ _ _ _ c.member_version-w.ensures,
+    walk_limits (plain_of c.args.book.now.sets c.args.book.now.numbers) c.requires.good _ _ _ _ c.member_version-w.ensures,
     (c.requires.good, c.loop-m.invariant.1.onto.closed),
   ),
 )

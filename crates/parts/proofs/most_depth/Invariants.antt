@@ -5,4 +5,4 @@ use Rattle.book.specs.Plain.{systems_of}
 use Rattle.parts.proofs.most_depth.Given as goal
 
 abbrev pub invariant-loop-s : goal.invariant-loop-s
-invariant-loop-s l = (l.s ≤ 32) × (l.n ≤ l.s) × (l.n ≡ count l.s (is_system (systems_of l.sets l.numbers)))
+invariant-loop-s l = (l.s ≤ 32) × (l.n ≤ l.s) × (l.n ≡ count l.s (is_system (systems_of l.book.sets l.book.numbers)))

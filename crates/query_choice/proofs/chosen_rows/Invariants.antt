@@ -5,4 +5,4 @@ use Rattle.sets.specs.Sets.{bit}
 use Rattle.query_choice.proofs.chosen_rows.Given as goal
 
 abbrev pub invariant-loop-c : goal.invariant-loop-c
-invariant-loop-c l = (l.c ≤ 32) × Chosen (specs_of l.sets l.numbers) (bit l.wanted) l.c l.out
+invariant-loop-c l = (l.c ≤ 32) × Chosen (specs_of l.book.sets l.book.numbers) (bit l.wanted) l.c l.out

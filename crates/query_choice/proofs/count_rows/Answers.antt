@@ -10,12 +10,12 @@ loop-c-init c = (search rules, count_start _)
 
 pub overflow_add-found : goal.overflow_add-found
 overflow_add-found c =
-    let e = rows_counted _ _ _ _ c.loop-c.invariant.1 c.count_versions-found.ensures in
+    let e = rows_counted _ _ _ _ c.loop-c.invariant.1 c.count.ensures in
     let l = count_le ((c.loop-c.c + 1) * 64) (row_in c.args.chosen.now) in
     omega arith
 
 pub loop-c-preserved : goal.loop-c-preserved
-loop-c-preserved c = (omega arith, rows_counted _ _ _ _ c.loop-c.invariant.1 c.count_versions-found.ensures)
+loop-c-preserved c = (omega arith, rows_counted _ _ _ _ c.loop-c.invariant.1 c.count.ensures)
 
 pub returns : goal.returns
 returns c = count_end 2048 _ _ _ (omega arith) (omega arith) c.loop-c.invariant.1

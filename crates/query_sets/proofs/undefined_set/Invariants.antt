@@ -6,4 +6,4 @@ use Rattle.book.specs.Plain.{plain_of}
 use Rattle.query_sets.proofs.undefined_set.Given as goal
 
 abbrev pub invariant-loop-c : goal.invariant-loop-c
-invariant-loop-c l = (l.c ≤ 32) × (bit l.found ≡ sets'.below l.c (undefined_at (plain_of l.sets l.numbers)))
+invariant-loop-c l = (l.c ≤ 32) × (bit l.found ≡ sets'.below l.c (undefined_at (plain_of l.book.sets l.book.numbers)))

@@ -6,4 +6,4 @@ use Rattle.book.specs.Plain.{systems_of}
 use Rattle.query_sets.proofs.user_set.Given as goal
 
 abbrev pub invariant-loop-s : goal.invariant-loop-s
-invariant-loop-s l = (l.s ≤ 32) × (bit l.found ≡ sets'.below l.s (uses_at (systems_of l.sets l.numbers) l.c))
+invariant-loop-s l = (l.s ≤ 32) × (bit l.found ≡ sets'.below l.s (uses_at (systems_of l.book.sets l.book.numbers) l.c))

@@ -3,10 +3,8 @@ use Rattle.read_command.specs.ChoiceLaws.{lookup_is}
 use Rattle.read_tokens.specs.TakeLaws.{part_is}
 use Rattle.read_command.proofs.lookup_part.Goals as goal
 
--- src/lib.rt:1491:5
 pub lookup-requires-clause-word_value : goal.lookup-requires-clause-word_value
 lookup-requires-clause-word_value c = search (rules, part_is)
 
--- src/lib.rt:1485:1
 pub returns : goal.returns
 returns c = search (rules, lookup_is)

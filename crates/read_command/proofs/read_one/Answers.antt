@@ -1,6 +1,5 @@
 use Rattle.read_command.specs.WordLaws.{one_said}
 use Rattle.read_command.proofs.read_one.Goals as goal
 
--- src/lib.rt:1217:1
 pub returns : goal.returns
 returns c = λ f. one_said _ _ _ _ _ c.read_name.ensures f

@@ -3,26 +3,20 @@ use Rattle.read_command.specs.ChoiceLaws.{known_small, known-not, known_at}
 use Rattle.read_tokens.specs.TakeLaws.{no_answer, part_span, name_short}
 use Rattle.read_command.proofs.take_known.Goals as goal
 
--- src/lib.rt:1502:9
 pub returns-then-not-w : goal.returns-then-not-w
 returns-then-not-w c = search (rules, no_answer)
 
--- src/lib.rt:1511:31
 pub lookup_part-requires-clause-span : goal.lookup_part-requires-clause-span
 lookup_part-requires-clause-span c = search (rules, part_span)
 
--- src/lib.rt:1511:31
 pub lookup_part-requires-clause-e_value : goal.lookup_part-requires-clause-e_value
 lookup_part-requires-clause-e_value c = search (rules, name_short)
 
--- src/lib.rt:1512:9
 pub returns-in_default : goal.returns-in_default
 returns-in_default c = search (rules, known-not) fits 20000
 
--- src/lib.rt:1522:14
 pub with-requires : goal.with-requires
 with-requires c = search (rules, known_small) fits 20000
 
--- src/lib.rt:1495:1
 pub returns : goal.returns
 returns c = search (rules, known_at) fits 20000

@@ -2,7 +2,6 @@ use Rattle.std.proofs.Common.{refl}
 use Rattle.sets.specs.Tests.{◌&◌}
 use Rattle.read_mod.proofs.with_mod_version.Goals as goal
 
--- src/lib.rt:535:1
 pub returns : goal.returns
 unfolding ◌&◌
 returns c = record { there = refl; end = refl; numbers = c.with_number.ensures; vers = refl; impls = refl }

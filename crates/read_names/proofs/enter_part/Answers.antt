@@ -2,22 +2,17 @@ use Rattle.std.proofs.Common.{rules}
 use Rattle.read_tokens.specs.TakeLaws.{kept_on, enters_at, enters_not, part_is}
 use Rattle.read_names.proofs.enter_part.Goals as goal
 
--- src/lib.rt:138:31
 pub enter-requires-clause-word_value : goal.enter-requires-clause-word_value
 enter-requires-clause-word_value c = search (rules, part_is)
 
--- src/lib.rt:139:9
 pub returns-in_default-clause-kept_2 : goal.returns-in_default-clause-kept_2
 returns-in_default-clause-kept_2 c = search (rules, kept_on, part_is)
 
--- src/lib.rt:139:9
 pub returns-in_default-clause-enters : goal.returns-in_default-clause-enters
 returns-in_default-clause-enters c = search (rules, enters_not)
 
--- src/lib.rt:131:1
 pub returns-clause-kept_2 : goal.returns-clause-kept_2
 returns-clause-kept_2 c = search (rules, kept_on, part_is)
 
--- src/lib.rt:131:1
 pub returns-clause-enters : goal.returns-clause-enters
 returns-clause-enters c = search (rules, enters_at)

@@ -3,32 +3,26 @@ use Rattle.read_tokens.specs.ListLaws.{leads_start, leads_wrong, leads_inside, l
 use Rattle.text_laws.specs.Takes.{name_takes}
 use Rattle.read_names.proofs.take_facilities.Goals as goal
 
--- src/lib.rt:224:5
 pub loop-n-init : goal.loop-n-init
 loop-n-init c = (search (rules, leads_start), search rules)
 
--- src/lib.rt:227:13
 pub returns-then-not-n-clause-answers : goal.returns-then-not-n-clause-answers
 returns-then-not-n-clause-answers c =
     leads_wrong _ _ _ name_takes _ _ _ _ _ _ _ _ c.loop-n.invariant.0 c.take_facility-n.ensures.answers _ _ c.if-not-n.true
 
--- src/lib.rt:230:13
 pub want_mark-m-requires : goal.want_mark-m-requires
 want_mark-m-requires c = leads_inside _ _ _ name_takes _ _ _ _ _ _ _ _ c.loop-n.invariant.0 c.take_facility-n.ensures.answers c.if-not-n.false
 
--- src/lib.rt:232:13
 pub returns-then-not-m-clause-answers : goal.returns-then-not-m-clause-answers
 returns-then-not-m-clause-answers c =
     leads_last _ _ _ name_takes _ _ _ _ _ _ _ _ c.loop-n.invariant.0 c.take_facility-n.ensures.answers c.if-not-n.false _ _
     c.want_mark-m.ensures c.if-not-m.true
 
--- src/lib.rt:224:5
 pub loop-n-smaller : goal.loop-n-smaller
 loop-n-smaller c =
     let l = leads_less _ _ _ name_takes _ _ _ _ _ _ _ _ c.loop-n.invariant.0 c.take_facility-n.ensures.answers c.if-not-n.false _ _
     c.want_mark-m.ensures c.if-not-m.false in search rules
 
--- src/lib.rt:224:5
 pub loop-n-preserved : goal.loop-n-preserved
 loop-n-preserved c = (
   leads_on _ _ _ name_takes _ _ _ _ _ _ _ _ c.loop-n.invariant.0 c.take_facility-n.ensures.answers c.if-not-n.false _ _

@@ -2,22 +2,17 @@ use Rattle.std.proofs.Common.{arith, rules}
 use Rattle.read_tokens.specs.TakeLaws.{no_answer, part_span, part_taken, part_read, imp_short}
 use Rattle.read_names.proofs.take_imp.Goals as goal
 
--- src/lib.rt:181:9
 pub returns-then-not-w-clause-answers : goal.returns-then-not-w-clause-answers
 returns-then-not-w-clause-answers c = search (rules, no_answer)
 
--- src/lib.rt:185:9
 pub enter_part-n-requires-clause-span : goal.enter_part-n-requires-clause-span
 enter_part-n-requires-clause-span c = search (rules, part_span)
 
--- src/lib.rt:185:9
 pub enter_part-n-requires-clause-e_value : goal.enter_part-n-requires-clause-e_value
 enter_part-n-requires-clause-e_value c = search (rules, imp_short)
 
--- src/lib.rt:186:31
 pub overflow_add-result : goal.overflow_add-result
 overflow_add-result c = let h = part_read _ _ _ _ _ _ _ c.read_imp-w.ensures c.if-not-w.false in omega arith
 
--- src/lib.rt:173:1
 pub returns-clause-answers : goal.returns-clause-answers
 returns-clause-answers c = search (rules, part_taken)

@@ -1,6 +1,5 @@
 use Rattle.read_tokens.specs.ProductionLaws.{spec_start_lem}
 use Rattle.read_spec.proofs.no_spec_versions.Goals as goal
 
--- src/lib.rt:404:1
 pub returns : goal.returns
 returns c = λ v f. spec_start_lem _ _ c.no_sets.ensures v f

@@ -2,7 +2,6 @@ use Rattle.std.proofs.Common.{refl}
 use Rattle.sets.specs.Tests.{◌&◌}
 use Rattle.read_spec.proofs.spec_request.Goals as goal
 
--- src/lib.rt:472:1
 pub returns : goal.returns
 unfolding ◌&◌
 returns c = record { there = refl; end = refl; component = refl; set = refl; versions = refl; standard = refl; room = refl }

@@ -4,53 +4,42 @@ use Rattle.text_laws.specs.Takes.{spec_version_takes}
 use Rattle.read_tokens.specs.ListLaws.{leads_start, leads_wrong, leads_inside, leads_last, leads_less, leads_on}
 use Rattle.read_spec.proofs.take_spec_versions.Goals as goal
 
--- src/lib.rt:389:5
 pub loop-n-init : goal.loop-n-init
 loop-n-init c = (search (rules, leads_start), search rules, search rules)
 
--- src/lib.rt:392:13
 pub returns-then-not-n-clause-kept_3 : goal.returns-then-not-n-clause-kept_3
 returns-then-not-n-clause-kept_3 c = c.take_spec_version-n.ensures.kept_3
 
--- src/lib.rt:392:13
 pub returns-then-not-n-clause-kept_4 : goal.returns-then-not-n-clause-kept_4
 returns-then-not-n-clause-kept_4 c = c.take_spec_version-n.ensures.kept_4
 
--- src/lib.rt:392:13
 pub returns-then-not-n-clause-answers : goal.returns-then-not-n-clause-answers
 returns-then-not-n-clause-answers c =
     leads_wrong _ _ _ spec_version_takes _ _ _ _ _ _ _ _ c.loop-n.invariant.0 c.take_spec_version-n.ensures.answers _ _ c.if-not-n.true
 
--- src/lib.rt:395:13
 pub want_mark-m-requires : goal.want_mark-m-requires
 want_mark-m-requires c =
     leads_inside _ _ _ spec_version_takes _ _ _ _ _ _ _ _ c.loop-n.invariant.0 c.take_spec_version-n.ensures.answers c.if-not-n.false
 
--- src/lib.rt:397:13
 pub shape_of-facs-then-not-m : goal.shape_of-facs-then-not-m
 shape_of-facs-then-not-m c = kept_same _ _ _ c.take_spec_version-n.ensures.kept_4 c.requires.kept_2
 
--- src/lib.rt:397:13
 pub returns-then-not-m-clause-kept_3 : goal.returns-then-not-m-clause-kept_3
 returns-then-not-m-clause-kept_3 c = c.take_spec_version-n.ensures.kept_3
 
--- src/lib.rt:397:13
 pub returns-then-not-m-clause-kept_4 : goal.returns-then-not-m-clause-kept_4
 returns-then-not-m-clause-kept_4 c = c.take_spec_version-n.ensures.kept_4
 
--- src/lib.rt:397:13
 pub returns-then-not-m-clause-answers : goal.returns-then-not-m-clause-answers
 returns-then-not-m-clause-answers c =
     leads_last _ _ _ spec_version_takes _ _ _ _ _ _ _ _ c.loop-n.invariant.0 c.take_spec_version-n.ensures.answers c.if-not-n.false _ _
     c.want_mark-m.ensures c.if-not-m.true
 
--- src/lib.rt:389:5
 pub loop-n-smaller : goal.loop-n-smaller
 loop-n-smaller c =
     let l = leads_less _ _ _ spec_version_takes _ _ _ _ _ _ _ _ c.loop-n.invariant.0 c.take_spec_version-n.ensures.answers c.if-not-n.false
     _ _ c.want_mark-m.ensures c.if-not-m.false in search rules
 
--- src/lib.rt:389:5
 pub loop-n-preserved : goal.loop-n-preserved
 loop-n-preserved c = (
   leads_on _ _ _ spec_version_takes _ _ _ _ _ _ _ _ c.loop-n.invariant.0 c.take_spec_version-n.ensures.answers c.if-not-n.false _ _

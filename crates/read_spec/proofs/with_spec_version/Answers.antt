@@ -2,7 +2,6 @@ use Rattle.std.proofs.Common.{rules}
 use Rattle.sets.specs.Tests.{◌&◌, ◌or◌}
 use Rattle.read_spec.proofs.with_spec_version.Goals as goal
 
--- src/lib.rt:336:1
 pub returns : goal.returns
 unfolding ◌or◌ ◌&◌
 returns c = search rules

@@ -2,7 +2,6 @@ use Rattle.std.proofs.Common.{refl}
 use Rattle.sets.specs.Tests.{◌&◌}
 use Rattle.read_sys.proofs.sys_request.Goals as goal
 
--- src/lib.rt:1158:1
 pub returns : goal.returns
 unfolding ◌&◌
 returns c = record { there = refl; end = refl; component = refl; usable = refl; versions = refl; room = refl }

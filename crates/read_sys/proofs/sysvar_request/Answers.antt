@@ -2,7 +2,6 @@ use Rattle.std.proofs.Common.{refl}
 use Rattle.sets.specs.Tests.{◌&◌}
 use Rattle.read_sys.proofs.sysvar_request.Goals as goal
 
--- src/lib.rt:931:1
 pub returns : goal.returns
 unfolding ◌&◌
 returns c = record { there = refl; end = refl; component = refl; version = refl; composition = refl; room = refl }

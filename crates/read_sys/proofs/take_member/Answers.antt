@@ -2,67 +2,52 @@ use Rattle.read_tokens.specs.ProductionLaws.{there_inside, pass_inside}
 use Rattle.read_sys.specs.MemberLaws.{member_no_name, member_no_version, member_alone, member_taken}
 use Rattle.read_sys.proofs.take_member.Goals as goal
 
--- src/lib.rt:853:9
 pub returns-then-not-c-clause-kept_3 : goal.returns-then-not-c-clause-kept_3
 returns-then-not-c-clause-kept_3 c = c.take_name-c.ensures.kept_2
 
--- src/lib.rt:853:9
 pub returns-then-not-c-clause-kept_4 : goal.returns-then-not-c-clause-kept_4
 returns-then-not-c-clause-kept_4 c = c.requires.kept_2
 
--- src/lib.rt:853:9
 pub returns-then-not-c-clause-answers : goal.returns-then-not-c-clause-answers
 returns-then-not-c-clause-answers c = member_no_name _ _ _ _ _ c.take_name-c.ensures.answers _ _ c.if-not-c.true
 
--- src/lib.rt:856:9
 pub pass_mark-d-requires : goal.pass_mark-d-requires
 pass_mark-d-requires c = there_inside _ _ _ _ _ _ c.take_name-c.ensures.answers c.if-not-c.false
 
--- src/lib.rt:859:9
 pub returns-then-not-d-clause-kept_3 : goal.returns-then-not-d-clause-kept_3
 returns-then-not-d-clause-kept_3 c = c.take_name-c.ensures.kept_2
 
--- src/lib.rt:859:9
 pub returns-then-not-d-clause-kept_4 : goal.returns-then-not-d-clause-kept_4
 returns-then-not-d-clause-kept_4 c = c.requires.kept_2
 
--- src/lib.rt:859:9
 pub returns-then-not-d-clause-answers : goal.returns-then-not-d-clause-answers
 returns-then-not-d-clause-answers c =
     member_alone _ _ _ _ _ _ _ _ _ _ _ _ _ c.take_name-c.ensures.answers c.if-not-c.false c.pass_mark-d.ensures c.if-not-d.true
     c.with_named_member.ensures
 
--- src/lib.rt:861:9
 pub take_name-v-requires-clause-kept : goal.take_name-v-requires-clause-kept
 take_name-v-requires-clause-kept c = c.requires.kept_2
 
--- src/lib.rt:861:9
 pub take_name-v-requires-clause-at_in_bounds : goal.take_name-v-requires-clause-at_in_bounds
 take_name-v-requires-clause-at_in_bounds c = pass_inside _ _ _ _ _ c.pass_mark-d.ensures
 
--- src/lib.rt:863:9
 pub returns-then-not-v-clause-kept_3 : goal.returns-then-not-v-clause-kept_3
 returns-then-not-v-clause-kept_3 c = c.take_name-c.ensures.kept_2
 
--- src/lib.rt:863:9
 pub returns-then-not-v-clause-kept_4 : goal.returns-then-not-v-clause-kept_4
 returns-then-not-v-clause-kept_4 c = c.take_name-v.ensures.kept_2
 
--- src/lib.rt:863:9
 pub returns-then-not-v-clause-answers : goal.returns-then-not-v-clause-answers
 returns-then-not-v-clause-answers c =
     member_no_version _ _ _ _ _ c.take_name-c.ensures.answers _ c.if-not-c.false _ _ c.pass_mark-d.ensures c.if-not-d.false _ _ _
     c.take_name-v.ensures.answers _ c.if-not-v.true
 
--- src/lib.rt:841:1
 pub returns-clause-kept_3 : goal.returns-clause-kept_3
 returns-clause-kept_3 c = c.take_name-c.ensures.kept_2
 
--- src/lib.rt:841:1
 pub returns-clause-kept_4 : goal.returns-clause-kept_4
 returns-clause-kept_4 c = c.take_name-v.ensures.kept_2
 
--- src/lib.rt:841:1
 pub returns-clause-answers : goal.returns-clause-answers
 returns-clause-answers c =
     member_taken _ _ _ _ _ _ _ _ _ _ _ _ _ c.take_name-c.ensures.answers c.if-not-c.false c.pass_mark-d.ensures _ _ _ _ _ c.if-not-d.false

@@ -4,48 +4,38 @@ use Rattle.read_tokens.specs.ListLaws.{leads_start, leads_wrong, leads_inside, l
 use Rattle.read_tokens.specs.TakeLaws.{kept_same}
 use Rattle.read_sys.proofs.take_usables.Goals as goal
 
--- src/lib.rt:1017:5
 pub loop-n-init : goal.loop-n-init
 loop-n-init c = (search (rules, leads_start), search rules)
 
--- src/lib.rt:1020:13
 pub shape_of-comps-then-not-n : goal.shape_of-comps-then-not-n
 shape_of-comps-then-not-n c = kept_same _ _ _ c.take_usable-n.ensures.kept_2 c.requires.kept
 
--- src/lib.rt:1020:13
 pub returns-then-not-n-clause-kept_2 : goal.returns-then-not-n-clause-kept_2
 returns-then-not-n-clause-kept_2 c = c.take_usable-n.ensures.kept_2
 
--- src/lib.rt:1020:13
 pub returns-then-not-n-clause-answers : goal.returns-then-not-n-clause-answers
 returns-then-not-n-clause-answers c =
     leads_wrong _ _ _ name_takes _ _ _ _ _ _ _ _ c.loop-n.invariant.0 c.take_usable-n.ensures.answers _ _ c.if-not-n.true
 
--- src/lib.rt:1023:13
 pub want_mark-m-requires : goal.want_mark-m-requires
 want_mark-m-requires c = leads_inside _ _ _ name_takes _ _ _ _ _ _ _ _ c.loop-n.invariant.0 c.take_usable-n.ensures.answers c.if-not-n.false
 
--- src/lib.rt:1025:13
 pub shape_of-comps-then-not-m : goal.shape_of-comps-then-not-m
 shape_of-comps-then-not-m c = kept_same _ _ _ c.take_usable-n.ensures.kept_2 c.requires.kept
 
--- src/lib.rt:1025:13
 pub returns-then-not-m-clause-kept_2 : goal.returns-then-not-m-clause-kept_2
 returns-then-not-m-clause-kept_2 c = c.take_usable-n.ensures.kept_2
 
--- src/lib.rt:1025:13
 pub returns-then-not-m-clause-answers : goal.returns-then-not-m-clause-answers
 returns-then-not-m-clause-answers c =
     leads_last _ _ _ name_takes _ _ _ _ _ _ _ _ c.loop-n.invariant.0 c.take_usable-n.ensures.answers c.if-not-n.false _ _
     c.want_mark-m.ensures c.if-not-m.true
 
--- src/lib.rt:1017:5
 pub loop-n-smaller : goal.loop-n-smaller
 loop-n-smaller c =
     let l = leads_less _ _ _ name_takes _ _ _ _ _ _ _ _ c.loop-n.invariant.0 c.take_usable-n.ensures.answers c.if-not-n.false _ _
     c.want_mark-m.ensures c.if-not-m.false in search rules
 
--- src/lib.rt:1017:5
 pub loop-n-preserved : goal.loop-n-preserved
 loop-n-preserved c = (
   leads_on _ _ _ name_takes _ _ _ _ _ _ _ _ c.loop-n.invariant.0 c.take_usable-n.ensures.answers c.if-not-n.false _ _

@@ -2,7 +2,6 @@ use Rattle.std.proofs.Common.{refl}
 use Rattle.sets.specs.Tests.{◌&◌}
 use Rattle.read_sys.proofs.with_named_member.Goals as goal
 
--- src/lib.rt:827:1
 pub returns : goal.returns
 unfolding ◌&◌
 returns c = record { there = refl; end = refl; members = c.with_member.ensures; comps = refl; vers = refl }

@@ -2,10 +2,8 @@ use Rattle.std.proofs.Common.{rules}
 use Rattle.read_tokens.specs.ProductionLaws.{pass_yes, pass_no}
 use Rattle.read_tokens.proofs.pass_key.Goals as goal
 
--- src/lib.rt:121:9
 pub returns-then-s : goal.returns-then-s
 returns-then-s c = search (rules, pass_yes)
 
--- src/lib.rt:114:1
 pub returns : goal.returns
 returns c = search (rules, pass_no)

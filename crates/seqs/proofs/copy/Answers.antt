@@ -2,7 +2,6 @@ use Rattle.std.proofs.Common.{refl}
 use Rattle.seqs.specs.Filled.{filled}
 use Rattle.seqs.proofs.copy.Goals as goal
 
--- src/lib.rt:37:1
 pub returns : goal.returns
 unfolding filled
 returns c = rw c.copy_from_slice.ensures.after refl

@@ -1,5 +1,5 @@
 use Rattle.std.specs.Prelude.{not}
-use Rattle.std.proofs.Common.{ap}
+use Rattle.std.proofs.Common.{ap, refl}
 use Rattle.session_add.specs.AddingLaws.{way_accepted, way_refused, way_unasked}
 use Rattle.session_add.specs.AskedLaws.{spec_adds}
 use Rattle.session_add_spec.proofs.add_spec.Goals as goal
@@ -19,7 +19,7 @@ read_spec-r-requires-clause-at_in_bounds c = c.requires.at_in_bounds
 pub returns-then-not-r : goal.returns-then-not-r
 returns-then-not-r c =
     let all_of = way_unasked _ _ _ _ _ _ c.requires.ready _ _ _ _ _ _ (c.read_spec-r.ensures.by_index _) _ _ _ _ _ _ (λ x. spec_adds _ _ x _) (ap not c.if-not-r.true) _ c.unasked.ensures in
-    record { ready_2 = all_of.0; answers = all_of.1.0; undecided = all_of.1.1 }
+    record { ready_2 = all_of.0; answers = all_of.1.0; undecided = all_of.1.1; impls_kept = refl }
 
 pub answer_spec-answer-requires : goal.answer_spec-answer-requires
 answer_spec-answer-requires c = c.requires.ready.passes
@@ -27,9 +27,9 @@ answer_spec-answer-requires c = c.requires.ready.passes
 pub returns-then-answer-eq0 : goal.returns-then-answer-eq0
 returns-then-answer-eq0 c =
     let all_of = way_accepted _ _ _ _ _ _ c.requires.ready _ _ _ _ _ _ (c.read_spec-r.ensures.by_index _) _ _ _ _ _ _ (λ x. spec_adds _ _ x _) (ap not c.if-not-r.false) _ _ _ c.answer_spec-answer.ensures c.read_spec-r.ensures.kept_4 c.read_spec-r.ensures.kept_5 c.read_spec-r.ensures.kept_6 c.requires.ready.impls c.if-answer-eq0.true in
-    record { ready_2 = all_of.0; answers = all_of.1.0; undecided = all_of.1.1 }
+    record { ready_2 = all_of.0; answers = all_of.1.0; undecided = all_of.1.1; impls_kept = refl }
 
 pub returns-else-answer-eq0 : goal.returns-else-answer-eq0
 returns-else-answer-eq0 c =
     let all_of = way_refused _ _ _ _ _ _ c.requires.ready _ _ _ _ _ _ (c.read_spec-r.ensures.by_index _) _ _ _ _ _ _ (λ x. spec_adds _ _ x _) (ap not c.if-not-r.false) _ _ _ c.answer_spec-answer.ensures c.if-answer-eq0.false in
-    record { ready_2 = all_of.0; answers = all_of.1.0; undecided = all_of.1.1 }
+    record { ready_2 = all_of.0; answers = all_of.1.0; undecided = all_of.1.1; impls_kept = refl }

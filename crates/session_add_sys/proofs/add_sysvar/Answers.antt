@@ -1,5 +1,5 @@
 use Rattle.std.specs.Prelude.{not}
-use Rattle.std.proofs.Common.{ap}
+use Rattle.std.proofs.Common.{ap, refl}
 use Rattle.session_add.specs.AddingLaws.{way_accepted, way_refused, way_unasked}
 use Rattle.session_add.specs.AskedLaws.{sysvar_adds}
 use Rattle.session_add_sys.proofs.add_sysvar.Goals as goal
@@ -16,7 +16,7 @@ read_sysvar-r-requires-clause-at_in_bounds c = c.requires.at_in_bounds
 pub returns-then-not-r : goal.returns-then-not-r
 returns-then-not-r c =
     let all_of = way_unasked _ _ _ _ _ _ c.requires.ready _ _ _ _ _ _ (c.read_sysvar-r.ensures.by_index _ _) _ _ _ _ _ _ (λ x. sysvar_adds _ _ x _) (ap not c.if-not-r.true) _ c.unasked.ensures in
-    record { ready_2 = all_of.0; answers = all_of.1.0; undecided = all_of.1.1 }
+    record { ready_2 = all_of.0; answers = all_of.1.0; undecided = all_of.1.1; facs_kept = refl; impls_kept = refl }
 
 pub answer_sysvar-answer-requires : goal.answer_sysvar-answer-requires
 answer_sysvar-answer-requires c = c.requires.ready.passes
@@ -24,9 +24,9 @@ answer_sysvar-answer-requires c = c.requires.ready.passes
 pub returns-then-answer-eq0 : goal.returns-then-answer-eq0
 returns-then-answer-eq0 c =
     let all_of = way_accepted _ _ _ _ _ _ c.requires.ready _ _ _ _ _ _ (c.read_sysvar-r.ensures.by_index _ _) _ _ _ _ _ _ (λ x. sysvar_adds _ _ x _) (ap not c.if-not-r.false) _ _ _ c.answer_sysvar-answer.ensures c.read_sysvar-r.ensures.kept_3 c.read_sysvar-r.ensures.kept_4 c.requires.ready.facs c.requires.ready.impls c.if-answer-eq0.true in
-    record { ready_2 = all_of.0; answers = all_of.1.0; undecided = all_of.1.1 }
+    record { ready_2 = all_of.0; answers = all_of.1.0; undecided = all_of.1.1; facs_kept = refl; impls_kept = refl }
 
 pub returns-else-answer-eq0 : goal.returns-else-answer-eq0
 returns-else-answer-eq0 c =
     let all_of = way_refused _ _ _ _ _ _ c.requires.ready _ _ _ _ _ _ (c.read_sysvar-r.ensures.by_index _ _) _ _ _ _ _ _ (λ x. sysvar_adds _ _ x _) (ap not c.if-not-r.false) _ _ _ c.answer_sysvar-answer.ensures c.if-answer-eq0.false in
-    record { ready_2 = all_of.0; answers = all_of.1.0; undecided = all_of.1.1 }
+    record { ready_2 = all_of.0; answers = all_of.1.0; undecided = all_of.1.1; facs_kept = refl; impls_kept = refl }

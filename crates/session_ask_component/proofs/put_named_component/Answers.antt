@@ -14,4 +14,4 @@ pub put_of_component-requires : goal.put_of_component-requires
 put_of_component-requires c = c.requires.ready
 
 pub returns : goal.returns
-returns c = component_known _ _ _ _ _ _ _ _ _ _ c.lookup.ensures _ c.in-At.is c.put_of_component.ensures
+returns c = component_known _ _ _ _ _ _ _ _ _ _ c.lookup.ensures _ c.in-Some.is c.put_of_component.ensures

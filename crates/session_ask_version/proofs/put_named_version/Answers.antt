@@ -17,11 +17,11 @@ pub lookup-requires-2-clause-word_value : goal.lookup-requires-2-clause-word_val
 lookup-requires-2-clause-word_value c = c.requires.component_value.1
 
 pub no_version-requires : goal.no_version-requires
-no_version-requires c = number_small _ _ _ _ _ c.lookup.ensures c.in-At.is
+no_version-requires c = number_small _ _ _ _ _ c.lookup.ensures c.in-Some.is
 
 pub returns-in_default-lookup : goal.returns-in_default-lookup
 returns-in_default-lookup c =
-    version_no_number _ _ _ _ _ _ _ _ _ _ _ c.lookup.ensures _ c.in-At.is _ c.lookup-2.ensures c.in_default-lookup.is
+    version_no_number _ _ _ _ _ _ _ _ _ _ _ c.lookup.ensures _ c.in-Some.is _ c.lookup-2.ensures c.in_default-lookup.is
     _ c.no_version.ensures c.put_answer_row-in_default-lookup.ensures
 
 pub put_of_version-requires : goal.put_of_version-requires
@@ -29,5 +29,5 @@ put_of_version-requires c = c.requires.ready
 
 pub returns : goal.returns
 returns c =
-    version_known _ _ _ _ _ _ _ _ _ _ _ c.lookup.ensures _ c.in-At.is _ c.lookup-2.ensures _ c.in-At-lookup.is
+    version_known _ _ _ _ _ _ _ _ _ _ _ c.lookup.ensures _ c.in-Some.is _ c.lookup-2.ensures _ c.in-Some-lookup.is
     c.put_of_version.ensures

@@ -42,15 +42,15 @@ returns-in_default-clause-undecided c = was_decided
 pub returns-clause-ready_2 : goal.returns-clause-ready_2
 returns-clause-ready_2 c =
     let ready = c.requires.ready in
-    let done = c.take_out.ensures in
+    let done = c.take_out.ensures.called in
     ready_on _ _ _ _ _ _ ready _ _ _ _ done
 
 pub returns-clause-answers : goal.returns-clause-answers
 returns-clause-answers c =
     let ready = c.requires.ready in
-    let done = c.take_out.ensures in
+    let done = c.take_out.ensures.called in
     component_known c.args.kind _ _ _ _ _ c.read_one-w.ensures c.if-not-w.false
-    _ _ _ _ _ _ _ c.place_of.ensures ready _ c.in-At.is _ _ _ done
+    _ _ _ _ _ _ _ c.place_of.ensures ready _ c.in-Some.is _ _ _ done
 
 pub returns-clause-undecided : goal.returns-clause-undecided
 returns-clause-undecided c = was_decided

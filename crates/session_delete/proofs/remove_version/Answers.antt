@@ -53,7 +53,7 @@ place_of-requires-2-clause-e_value c =
     p.version_fits
 
 pub version_answer-requires : goal.version_answer-requires
-version_answer-requires c = found_small _ _ _ _ _ c.place_of.ensures c.in-At.is
+version_answer-requires c = found_small _ _ _ _ _ c.place_of.ensures c.in-Some.is
 
 pub returns-in_default-place_of-clause-ready_2 : goal.returns-in_default-place_of-clause-ready_2
 returns-in_default-place_of-clause-ready_2 c =
@@ -63,7 +63,7 @@ returns-in_default-place_of-clause-ready_2 c =
 pub returns-in_default-place_of-clause-answers : goal.returns-in_default-place_of-clause-answers
 returns-in_default-place_of-clause-answers c =
     version_unknown c.args.kind _ _ _ c.read_pair-p.ensures c.if-not-p.false
-    _ _ _ _ _ _ _ c.place_of.ensures _ c.in-At.is _ c.place_of-2.ensures
+    _ _ _ _ _ _ _ c.place_of.ensures _ c.in-Some.is _ c.place_of-2.ensures
     c.in_default-place_of.is _ c.version_answer.ensures
 
 pub returns-in_default-place_of-clause-undecided : goal.returns-in_default-place_of-clause-undecided
@@ -72,16 +72,16 @@ returns-in_default-place_of-clause-undecided c = was_decided
 pub returns-clause-ready_2 : goal.returns-clause-ready_2
 returns-clause-ready_2 c =
     let ready = c.requires.ready in
-    let done = c.take_version_out.ensures in
+    let done = c.take_version_out.ensures.called in
     ready_on _ _ _ _ _ _ ready _ _ _ _ done
 
 pub returns-clause-answers : goal.returns-clause-answers
 returns-clause-answers c =
     let ready = c.requires.ready in
-    let done = c.take_version_out.ensures in
+    let done = c.take_version_out.ensures.called in
     version_known c.args.kind _ _ _ c.read_pair-p.ensures c.if-not-p.false
-    _ _ _ _ _ _ _ c.place_of.ensures _ c.in-At.is _ c.place_of-2.ensures
-    ready _ c.in-At-place_of.is _ _ _ done
+    _ _ _ _ _ _ _ c.place_of.ensures _ c.in-Some.is _ c.place_of-2.ensures
+    ready _ c.in-Some-place_of.is _ _ _ done
 
 pub returns-clause-undecided : goal.returns-clause-undecided
 returns-clause-undecided c = was_decided

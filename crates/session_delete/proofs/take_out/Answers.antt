@@ -20,11 +20,11 @@ module _ (s n : List ℕ) (k : Component) (c a : ℕ) (s' n' : List ℕ) where
   unfolding component_command
   system_out e h = called_as _ _ _ _ _ _ _ (ap (λ (x : Component). component_command x c) (sym e)) h
 
-pub returns-in-Spec : goal.returns-in-Spec
-returns-in-Spec c = search (rules, spec_out)
+pub returns-in-Spec-clause-called : goal.returns-in-Spec-clause-called
+returns-in-Spec-clause-called c = search (rules, spec_out)
 
-pub returns-in-Module : goal.returns-in-Module
-returns-in-Module c = search (rules, module_out)
+pub returns-in-Module-clause-called : goal.returns-in-Module-clause-called
+returns-in-Module-clause-called c = search (rules, module_out)
 
-pub returns-in-System : goal.returns-in-System
-returns-in-System c = search (rules, system_out)
+pub returns-in-System-clause-called : goal.returns-in-System-clause-called
+returns-in-System-clause-called c = search (rules, system_out)

@@ -5,4 +5,4 @@ pub put_pairs-requires : goal.put_pairs-requires
 put_pairs-requires c = c.requires
 
 pub returns : goal.returns
-returns c = answer_put _ c.wide.ensures _ c.put_answer_row-a.ensures c.put_pairs.ensures
+returns c = answer_put _ c.from.ensures _ c.put_answer_row-a.ensures c.put_pairs.ensures

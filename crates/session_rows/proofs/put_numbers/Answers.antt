@@ -5,4 +5,4 @@ pub put_set-requires : goal.put_set-requires
 put_set-requires c = c.requires
 
 pub returns : goal.returns
-returns c = answer_put _ c.wide.ensures _ c.put_answer_row-a.ensures c.put_set.ensures
+returns c = answer_put _ c.from.ensures _ c.put_answer_row-a.ensures c.put_set.ensures

@@ -5,4 +5,6 @@ use Rattle.session_rows.specs.RowLaws.{pairs_from}
 use Rattle.session_rows.proofs.put_pairs.Given as goal
 
 abbrev pub invariant-loop-k : goal.invariant-loop-k
-invariant-loop-k l = (l.k ≤ l.count) × Partly (rows_of l.i (pairs_in l.comps l.vers l.count l.rows)) (pairs_from l.i l.comps l.vers l.count l.rows l.k) l.initial.after l.after l.initial.out l.out
+invariant-loop-k l =
+    (l.k ≤ l.count) × Partly (rows_of l.i (pairs_in l.comps l.vers l.count l.rows))
+    (pairs_from l.i l.comps l.vers l.count l.rows l.k) l.initial.after l.after l.initial.out l.out

@@ -3,7 +3,7 @@ use Rattle.try_demand_3.proofs.build.Goals as goal
 
 pub returns : goal.returns
 returns c =
-    called c.spec-probe.ensures
-    (called c.spec-valve.ensures
-    (called c.spec-loops.ensures
-    (called c.spec-tank.ensures (called c.system-made.ensures ended))))
+    called c.add_spec-probe.ensures
+    (called c.add_spec-valve.ensures
+    (called c.add_spec-loops.ensures
+    (called c.add_spec-tank.ensures (called c.add_sys-made.ensures ended))))

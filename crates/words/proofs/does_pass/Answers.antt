@@ -1,6 +1,12 @@
 use Rattle.std.proofs.Common.{rules}
-use Rattle.words.specs.ByteLaws.{does_pass}
+use Rattle.sets.specs.Tests.{◌or◌, ◌=?◌}
+use Rattle.words.specs.Reading.{passes}
 use Rattle.words.proofs.does_pass.Goals as goal
 
-pub returns : goal.returns
-returns c = search (rules, does_pass)
+pub returns-then-is_white : goal.returns-then-is_white
+unfolding passes ◌or◌ ◌=?◌
+returns-then-is_white c = search rules
+
+pub returns-else-is_white : goal.returns-else-is_white
+unfolding passes ◌or◌ ◌=?◌
+returns-else-is_white c = search rules

@@ -14,10 +14,10 @@ pub overflow_mul-hash : goal.overflow_mul-hash
 overflow_mul-hash c = omega (arith, (short_length _ c.requires).1)
 
 pub overflow_add-hash : goal.overflow_add-hash
-overflow_add-hash c = omega (arith, c.wide.ensures, (short_length _ c.requires).1, c.type_inv.word (length c.args.word.now - 1))
+overflow_add-hash c = omega (arith, c.from.ensures, (short_length _ c.requires).1, c.type_inv.word (length c.args.word.now - 1))
 
 pub returns : goal.returns
 unfolding hash_of
 returns c =
     c.member.ensures
-    ∙ ap (λ (a : ℕ). bit keyword_hashes ((a + 8 * length c.args.word.now) % 64)) c.wide.ensures
+    ∙ ap (λ (a : ℕ). bit keyword_hashes ((a + 8 * length c.args.word.now) % 64)) c.from.ensures

@@ -8,8 +8,8 @@ loop-i-init c = search (rules, skip_start)
 pub loop-i-preserved : goal.loop-i-preserved
 loop-i-preserved c = search (rules, skip_turn)
 
-pub returns-else-does_pass : goal.returns-else-does_pass
-returns-else-does_pass c = search (rules, skip_stop)
+pub returns-then-not-does_pass : goal.returns-then-not-does_pass
+returns-then-not-does_pass c = search (rules, skip_stop)
 
 pub returns-then-inside : goal.returns-then-inside
 returns-then-inside c = search (rules, skip_open)

@@ -1,16 +1,16 @@
 use Rattle.std.proofs.Common.{length, []}
 use Rattle.sets.specs.Sets.{bit}
-use Rattle.names.specs.Stored.{table_of, tables_of}
+use Rattle.names.specs.Stored.{table_of, tables}
 use Rattle.text.specs.Written.{by_name}
 use Rattle.write_version.specs.ListedLaws.{Listing}
-use Rattle.book.specs.Plain.{plain_of}
+use Rattle.book.specs.Plain.{plain}
 use Rattle.write_line.specs.Lines.{line_of}
 use Rattle.write_book.proofs.put_lines.Given as goal
 
-abbrev pub invariant-loop-k : goal.invariant-loop-k
-invariant-loop-k l =
-    Listing [] (line_of l.kind (plain_of l.sets l.numbers) (tables_of l.comps l.vers l.facs l.impls)) (table_of 32 l.comps) 32 (bit l.set) (bit l.rest) l.k
+abbrev pub invariant-loop-c : goal.invariant-loop-c
+invariant-loop-c l =
+    Listing [] [] (line_of l.kind (plain l.book) (tables l.names)) (table_of 32 l.names.comps) 32 (bit l.set) (bit l.rest) []
     l.initial.after l.after l.initial.out l.out
 
-abbrev pub decreases-loop-k : goal.decreases-loop-k
-decreases-loop-k l = length (by_name (table_of 32 l.comps) 32 (bit l.rest))
+abbrev pub decreases-loop-c : goal.decreases-loop-c
+decreases-loop-c l = length (by_name (table_of 32 l.names.comps) 32 (bit l.rest))

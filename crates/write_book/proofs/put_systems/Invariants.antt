@@ -1,7 +1,7 @@
 use Rattle.std.proofs.Common.{◌≤◌}
 use Rattle.sets.specs.Sets.{bit}
-use Rattle.names.specs.Stored.{table_of, tables_of}
-use Rattle.book.specs.Plain.{plain_of, systems_of}
+use Rattle.names.specs.Stored.{table_of, tables}
+use Rattle.book.specs.Plain.{plain, systems_of}
 use Rattle.write_line.specs.Lines.{line_of, system_lines}
 use Rattle.write_book.specs.SystemLaws.{InOrder}
 use Rattle.write_version.specs.declared.Kind.TheVariants.{System}
@@ -9,6 +9,6 @@ use Rattle.write_book.proofs.put_systems.Given as goal
 
 abbrev pub invariant-loop-i : goal.invariant-loop-i
 invariant-loop-i l =
-    (l.i ≤ 32) × InOrder (system_lines (plain_of l.sets l.numbers) (tables_of l.comps l.vers l.facs l.impls))
-    (line_of System (plain_of l.sets l.numbers) (tables_of l.comps l.vers l.facs l.impls)) (systems_of l.sets l.numbers) (table_of 32 l.comps) l.i (bit l.done)
+    (l.i ≤ 32) × InOrder (system_lines (plain l.book) (tables l.names))
+    (line_of System (plain l.book) (tables l.names)) (systems_of l.book.sets l.book.numbers) (table_of 32 l.names.comps) l.i (bit l.done)
     l.initial.after l.after l.initial.out l.out

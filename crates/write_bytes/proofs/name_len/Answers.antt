@@ -5,7 +5,7 @@ pub returns-then-places-k : goal.returns-then-places-k
 returns-then-places-k c = length_past _ _ _ c.requires c.if-places-k.true
 
 pub returns-then-n-gt32 : goal.returns-then-n-gt32
-returns-then-n-gt32 c = length_none _ _ _ c.requires _ c.if-places-k.false c.wide-n.ensures c.if-n-gt32.true
+returns-then-n-gt32 c = length_none _ _ _ c.requires _ c.if-places-k.false c.from-n.ensures c.if-n-gt32.true
 
 pub returns : goal.returns
-returns c = length_some _ _ _ c.requires _ c.if-places-k.false c.wide-n.ensures c.if-n-gt32.false
+returns c = length_some _ _ _ c.requires _ c.if-places-k.false c.from-n.ensures c.if-n-gt32.false

@@ -1,30 +1,23 @@
-use Rattle.std.proofs.Common.{arith, refl}
-use Rattle.sets.specs.Tests.{◌<?◌}
-use Rattle.write_version.specs.ListedLaws.{listing_end, listing_keeps, listing_less, listing_start, listing_turn}
+use Rattle.std.proofs.Common.{arith}
+use Rattle.names.specs.EnterLaws.{found_at, found_nothing}
+use Rattle.text.specs.Bytes.{bytes}
+use Rattle.write_version.specs.ListedLaws.{listed_end, listing_below, listing_less, listing_start, listing_turn}
 use Rattle.write_line.proofs.put_versions.Goals as goal
 
-pub loop-k-init : goal.loop-k-init
-loop-k-init c = listing_start c.first_by_name-k.ensures
+pub loop-v-init : goal.loop-v-init
+loop-v-init c = listing_start
 
 pub without-rest-requires : goal.without-rest-requires
-without-rest-requires c =
-    omega (
-      arith,
-      c.loop-k-test.true,
-    )
+without-rest-requires c = let h = listing_below c.loop-v.invariant (found_at _ _ _ c.first_by_name.ensures c.in-Some.is) in omega (arith, h)
 
-pub put_version_and-after-requires : goal.put_version_and-after-requires
-put_version_and-after-requires c = c.requires
+pub loop-v-smaller : goal.loop-v-smaller
+loop-v-smaller c = listing_less c.loop-v.invariant (found_at _ _ _ c.first_by_name.ensures c.in-Some.is) c.without-rest.ensures
 
-pub loop-k-smaller : goal.loop-k-smaller
-loop-k-smaller c = listing_less c.loop-k.invariant c.loop-k-test.true c.without-rest.ensures
-
-pub loop-k-preserved : goal.loop-k-preserved
-unfolding ◌<?◌
-loop-k-preserved c = listing_turn c.loop-k.invariant c.loop-k-test.true c.without-rest.ensures c.first_by_name-next.ensures refl c.put_version_and-after.ensures
-
-pub shape_of-out : goal.shape_of-out
-shape_of-out c = listing_keeps c.loop-k.invariant
+pub loop-v-preserved : goal.loop-v-preserved
+unfolding bytes
+loop-v-preserved c =
+    listing_turn c.loop-v.invariant (found_at _ _ _ c.first_by_name.ensures c.in-Some.is) c.without-rest.ensures c.put-after.ensures
+    c.put_version-after.ensures
 
 pub returns : goal.returns
-returns c = listing_end c.loop-k.invariant c.loop-k-test.false
+returns c = listed_end c.loop-v.invariant (found_nothing _ _ c.first_by_name.ensures c.in_default.is)

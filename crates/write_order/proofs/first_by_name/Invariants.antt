@@ -1,11 +1,9 @@
-use Rattle.std.proofs.Common.{◌≤◌, ◌≡◌}
+use Rattle.std.proofs.Common.{◌≡◌}
+use Rattle.sets.specs.Answered.{answered}
 use Rattle.sets.specs.Sets.{bit}
 use Rattle.names.specs.Stored.{table_of}
 use Rattle.write_bytes.specs.ByNameLaws.{first_from}
 use Rattle.write_order.proofs.first_by_name.Given as goal
 
 abbrev pub invariant-loop-k : goal.invariant-loop-k
-invariant-loop-k l = (l.k ≤ l.places) × (l.best ≡ first_from (table_of l.places l.names) l.places (bit l.set) l.k)
-
-abbrev pub decreases-loop-k : goal.decreases-loop-k
-decreases-loop-k l = l.k
+invariant-loop-k l = answered l.best ≡ first_from (table_of l.places l.names) l.places (bit l.set) l.k

@@ -5,5 +5,5 @@ use Rattle.write_version.proofs.put_member.Goals as goal
 pub returns : goal.returns
 unfolding bytes
 returns c =
-    member_is _ _ _ _ _ _ _ _ _ c.name.ensures c.member_version-w.ensures c.name-2.ensures c.put-a.ensures
-    c.put-b.ensures c.put-d.ensures c.put_if.ensures
+    member_is _ _ _ _ _ _ _ _ c.name.ensures c.member_version-w.ensures c.name-2.ensures c.put-a.ensures
+    c.put-b.ensures c.put.ensures

@@ -1,34 +1,33 @@
-use Rattle.std.proofs.Common.{arith, ◌∙◌, ap, refl, sym}
+use Rattle.std.proofs.Common.{arith, ◌∙◌, ap, sym}
 use Rattle.sets.specs.Sets.{Set}
-use Rattle.sets.specs.Tests.{◌<?◌}
-use Rattle.write_version.specs.ListedLaws.{listing_end, listing_in_lem, listing_keeps, listing_less, listing_start, listing_turn}
+use Rattle.names.specs.EnterLaws.{found_at, found_nothing}
+use Rattle.text.specs.Bytes.{bytes}
+use Rattle.write_version.specs.ListedLaws.{listed_end, listing_below, listing_in_lem, listing_less, listing_start, listing_turn}
 use Rattle.write_version.proofs.put_members.Goals as goal
 
-pub loop-k-init : goal.loop-k-init
-loop-k-init c = listing_start c.first_by_name-k.ensures
-
-pub without-rest-requires : goal.without-rest-requires
-without-rest-requires c =
-    omega (
-      arith,
-      c.loop-k-test.true,
-    )
+pub loop-c-init : goal.loop-c-init
+loop-c-init c = listing_start
 
 pub put_member-after-requires-clause-s_bound : goal.put_member-after-requires-clause-s_bound
-put_member-after-requires-clause-s_bound c = (c.requires.s_bound, c.loop-k-test.true)
+put_member-after-requires-clause-s_bound c =
+    (c.requires.s_bound, listing_below c.loop-c.invariant (found_at _ _ _ c.first_by_name.ensures c.in-Some.is))
 
 pub put_member-after-requires-clause-c_value : goal.put_member-after-requires-clause-c_value
-put_member-after-requires-clause-c_value c = sym (ap (λ (a : Set). a c.loop-k.k) c.requires.set_value) ∙ listing_in_lem c.loop-k.invariant c.loop-k-test.true
+put_member-after-requires-clause-c_value c =
+    sym (ap (λ (a : Set). a c.in-Some.c) c.requires.set_value)
+    ∙ listing_in_lem c.loop-c.invariant (found_at _ _ _ c.first_by_name.ensures c.in-Some.is)
 
-pub loop-k-smaller : goal.loop-k-smaller
-loop-k-smaller c = listing_less c.loop-k.invariant c.loop-k-test.true c.without-rest.ensures
+pub without-rest-requires : goal.without-rest-requires
+without-rest-requires c = let h = listing_below c.loop-c.invariant (found_at _ _ _ c.first_by_name.ensures c.in-Some.is) in omega (arith, h)
 
-pub loop-k-preserved : goal.loop-k-preserved
-unfolding ◌<?◌
-loop-k-preserved c = listing_turn c.loop-k.invariant c.loop-k-test.true c.without-rest.ensures c.first_by_name-next.ensures refl c.put_member-after.ensures
+pub loop-c-smaller : goal.loop-c-smaller
+loop-c-smaller c = listing_less c.loop-c.invariant (found_at _ _ _ c.first_by_name.ensures c.in-Some.is) c.without-rest.ensures
 
-pub shape_of-out : goal.shape_of-out
-shape_of-out c = listing_keeps c.loop-k.invariant
+pub loop-c-preserved : goal.loop-c-preserved
+unfolding bytes
+loop-c-preserved c =
+    listing_turn c.loop-c.invariant (found_at _ _ _ c.first_by_name.ensures c.in-Some.is) c.without-rest.ensures c.put-after.ensures
+    c.put_member-after.ensures
 
 pub returns : goal.returns
-returns c = listing_end c.loop-k.invariant c.loop-k-test.false
+returns c = listed_end c.loop-c.invariant (found_nothing _ _ c.first_by_name.ensures c.in_default.is)

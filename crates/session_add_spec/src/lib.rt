@@ -1,5 +1,5 @@
-// The commands spec, mod and modvar of a session's text, each from behind its first word: its names are entered into a copy of the tables
-// as they are read, and Book and tables are changed only if it is accepted. What an answer means is session_state/specs/Carried.antt.
+// The commands spec, mod and modvar of a session's text, each from behind its first word: its names are entered into copies of the tables that it may
+// change, as they are read, and Book and tables are changed only if it is accepted. What an answer means is session_state/specs/Carried.antt.
 #![tactic(auto)]
 
 ghost use Rattle.std.specs.Prelude.{◌≡◌, ◌≤◌, length};
@@ -19,15 +19,19 @@ pub fn add_spec(state: &mut State, text: &[u8], at: usize) -> Decision
     ensures undecided { Undecided at (plain_state state.old) (plain_state state.new) result }
     ensures impls_kept { state.new.names.impls ≡ state.old.names.impls }
 {
-    let mut names = state.names;
-    let r = read_spec::read_spec(&mut names.comps, &mut names.vers, &mut names.facs, text, at);
+    let mut comps = state.names.comps;
+    let mut vers = state.names.vers;
+    let mut facs = state.names.facs;
+    let r = read_spec::read_spec(&mut comps, &mut vers, &mut facs, text, at);
     let end = r.end;
     if !(r.there & r.room) {
         return session_add::unasked(r.there, at, end);
     }
     let answer = session_add::answer_spec(&mut state.book, r);
     if answer == 0 {
-        state.names = names;
+        state.names.comps = comps;
+        state.names.vers = vers;
+        state.names.facs = facs;
     }
     Decision {
         there: true,
@@ -45,21 +49,19 @@ pub fn add_mod(state: &mut State, text: &[u8], at: usize) -> Decision
     ensures undecided { Undecided at (plain_state state.old) (plain_state state.new) result }
     ensures facs_kept { state.new.names.facs ≡ state.old.names.facs }
 {
-    let mut names = state.names;
-    let r = read_mod::read_mod(
-        &mut names.comps,
-        &mut names.vers,
-        &mut names.impls,
-        text,
-        at,
-    );
+    let mut comps = state.names.comps;
+    let mut vers = state.names.vers;
+    let mut impls = state.names.impls;
+    let r = read_mod::read_mod(&mut comps, &mut vers, &mut impls, text, at);
     let end = r.end;
     if !(r.there & r.room) {
         return session_add::unasked(r.there, at, end);
     }
     let answer = session_add::answer_mod(&mut state.book, r);
     if answer == 0 {
-        state.names = names;
+        state.names.comps = comps;
+        state.names.vers = vers;
+        state.names.impls = impls;
     }
     Decision {
         there: true,

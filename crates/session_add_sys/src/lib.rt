@@ -1,5 +1,5 @@
-// The commands sys and sysvar of a session's text, each from behind its first word: its names are entered into a copy of the tables as they
-// are read, and Book and tables are changed only if it is accepted. What an answer means is session_state/specs/Carried.antt.
+// The commands sys and sysvar of a session's text, each from behind its first word: its names are entered into copies of the tables that it may
+// change, as they are read, and Book and tables are changed only if it is accepted. What an answer means is session_state/specs/Carried.antt.
 #![tactic(auto)]
 
 ghost use Rattle.std.specs.Prelude.{◌≡◌, ◌≤◌, length};
@@ -20,15 +20,17 @@ pub fn add_sys(state: &mut State, text: &[u8], at: usize) -> Decision
     ensures facs_kept { state.new.names.facs ≡ state.old.names.facs }
     ensures impls_kept { state.new.names.impls ≡ state.old.names.impls }
 {
-    let mut names = state.names;
-    let r = read_sys::read_sys(&mut names.comps, &mut names.vers, text, at);
+    let mut comps = state.names.comps;
+    let mut vers = state.names.vers;
+    let r = read_sys::read_sys(&mut comps, &mut vers, text, at);
     let end = r.end;
     if !(r.there & r.room) {
         return session_add::unasked(r.there, at, end);
     }
     let answer = session_add::answer_sys(&mut state.book, r);
     if answer == 0 {
-        state.names = names;
+        state.names.comps = comps;
+        state.names.vers = vers;
     }
     Decision {
         there: true,
@@ -47,15 +49,17 @@ pub fn add_sysvar(state: &mut State, text: &[u8], at: usize) -> Decision
     ensures facs_kept { state.new.names.facs ≡ state.old.names.facs }
     ensures impls_kept { state.new.names.impls ≡ state.old.names.impls }
 {
-    let mut names = state.names;
-    let r = read_sys::read_sysvar(&mut names.comps, &mut names.vers, text, at);
+    let mut comps = state.names.comps;
+    let mut vers = state.names.vers;
+    let r = read_sys::read_sysvar(&mut comps, &mut vers, text, at);
     let end = r.end;
     if !(r.there & r.room) {
         return session_add::unasked(r.there, at, end);
     }
     let answer = session_add::answer_sysvar(&mut state.book, r);
     if answer == 0 {
-        state.names = names;
+        state.names.comps = comps;
+        state.names.vers = vers;
     }
     Decision {
         there: true,

@@ -11,8 +11,10 @@ ghost use Rattle.model.specs.Queries.{CHOICE};
 ghost use Rattle.parts.specs.Listed.{Listed};
 ghost use Rattle.query_replies.specs.Listed as chosen;
 ghost use Rattle.query_replies.specs.Replied.{Replied, replied_to, numbers_in};
+ghost use Rattle.refusal.specs.Numbers.{code, found};
 
 use book::Book;
+use refusal::Refusal;
 
 #[unsafe(no_mangle)]
 pub extern "C" fn version_book_test(sets: &[u64; 576], numbers: &[u8; 8768]) -> bool
@@ -25,7 +27,7 @@ pub extern "C" fn version_book_test(sets: &[u64; 576], numbers: &[u8; 8768]) -> 
     book_test::passes(&b)
 }
 
-// The call of a number, as in demand_3::call; ADD-MOD's implementations are lengths. The Book that it hands back is written into the last two arrays.
+// The call of a number, as in demand_3::call; ADD-MOD's implementations are lengths. The Book that it leaves is written into the last two arrays.
 #[unsafe(no_mangle)]
 pub extern "C" fn version_book_call(
     sets: &[u64; 576],
@@ -48,18 +50,16 @@ pub extern "C" fn version_book_call(
         (command_of (call_of kind c v i set usable.now versions.now lengths.now lengths.now
         members.now chosen.now required.now)) result next_sets.new next_numbers.new }
 {
-    let b = Book {
+    let mut b = Book {
         sets: *sets,
         numbers: *numbers,
     };
-    let done = demand_3::call(
-        b, kind, c, v, i, set, usable, versions, lengths, lengths, members, chosen, required,
+    let answer = demand_3::call(
+        &mut b, kind, c, v, i, set, usable, versions, lengths, lengths, members, chosen, required,
     );
-    let then_sets = done.book.sets;
-    let then_numbers = done.book.numbers;
-    *next_sets = then_sets;
-    *next_numbers = then_numbers;
-    done.answer
+    *next_sets = b.sets;
+    *next_numbers = b.numbers;
+    refusal::code(answer)
 }
 
 // The parts list of version v of c, written into out. It gives the answer, and writes how many rows there are and a depth.
@@ -79,63 +79,43 @@ pub extern "C" fn version_book_parts(
         sets: *sets,
         numbers: *numbers,
     };
-    let list = parts::parts(b, c, v, out);
-    *rows = list.rows;
-    *depth = list.depth;
-    list.answer
+    match parts::parts(&b, c, v, out) {
+        Ok(list) => {
+            *rows = list.rows;
+            *depth = list.depth;
+            0
+        }
+        Err(refusal) => {
+            *rows = 0;
+            *depth = 0;
+            refusal.number()
+        }
+    }
 }
 
-// What a query finds: its answer, 0 where it is accepted, and the set or the version as a number.
-#[derive(Drop)]
-struct Found {
-    answer: u8,
-    number: u64,
-}
-
-// The query of a number: SUPPLIES 0, NEEDS 1, UNDEFINED 2, UNUSED 3, WHEREUSED 4, any other STANDARD.
-fn query(b: Book, kind: usize, c: usize, v: usize) -> Found
-    ensures { Replied (asked_by kind c v).1 result.answer result.number (replied_to b.sets b.numbers (asked_by kind c v).0) }
+// The query of a number: SUPPLIES 0, NEEDS 1, UNDEFINED 2, UNUSED 3, WHEREUSED 4, any other STANDARD. It gives the set or the version as a
+// number.
+fn query(book: &Book, kind: usize, c: usize, v: usize) -> Result<u64, Refusal>
+    ensures { Replied (asked_by kind c v).1 (code result) (found result)
+        (replied_to book.now.sets book.now.numbers (asked_by kind c v).0) }
 {
     if kind == 0 {
-        let facilities = queries::supplies(b, c);
-        return Found {
-            answer: facilities.answer,
-            number: facilities.set,
-        };
+        return queries::supplies(book, c);
     }
     if kind == 1 {
-        let facilities = queries::needs(b, c, v);
-        return Found {
-            answer: facilities.answer,
-            number: facilities.set,
-        };
+        return queries::needs(book, c, v);
     }
     if kind == 2 {
-        let components = queries::undefined(b);
-        return Found {
-            answer: components.answer,
-            number: components.set,
-        };
+        return queries::undefined(book);
     }
     if kind == 3 {
-        let components = queries::unused(b);
-        return Found {
-            answer: components.answer,
-            number: components.set,
-        };
+        return queries::unused(book);
     }
     if kind == 4 {
-        let components = queries::whereused(b, c);
-        return Found {
-            answer: components.answer,
-            number: components.set,
-        };
+        return queries::whereused(book, c);
     }
-    let standard = queries::standard(b, c);
-    Found {
-        answer: standard.answer,
-        number: standard.version as u64,
-    }
+    let version = queries::standard(book, c)?;
+    Ok(version as u64)
 }
 
 // The query of a number. It gives the answer, and writes the set or the version: 0 where it is refused.
@@ -155,9 +135,16 @@ pub extern "C" fn version_book_query(
         sets: *sets,
         numbers: *numbers,
     };
-    let reply = query(b, kind, c, v);
-    *found = reply.number;
-    reply.answer
+    match query(&b, kind, c, v) {
+        Ok(number) => {
+            *found = number;
+            0
+        }
+        Err(refusal) => {
+            *found = 0;
+            refusal.number()
+        }
+    }
 }
 
 // CHOICE of a set of facilities, its rows written into out. It gives the answer, and writes how many rows there are.
@@ -176,7 +163,14 @@ pub extern "C" fn version_book_choice(
         sets: *sets,
         numbers: *numbers,
     };
-    let pairs = queries::choice(b, wanted, out);
-    *rows = pairs.rows;
-    pairs.answer
+    match queries::choice(&b, wanted, out) {
+        Ok(count) => {
+            *rows = count;
+            0
+        }
+        Err(refusal) => {
+            *rows = 0;
+            refusal.number()
+        }
+    }
 }

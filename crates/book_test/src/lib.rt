@@ -2,7 +2,7 @@
 #![tactic(auto)]
 
 ghost use Rattle.std.specs.Prelude.{◌≡◌, true, ◌<◌};
-ghost use Rattle.sets.specs.Tests.{all};
+ghost use Rattle.sets.specs.Tests.{all, if?◌then◌else◌};
 ghost use Rattle.sets.specs.Sets.{bit};
 ghost use Rattle.model.specs.Book.{has_version, is_system};
 ghost use Rattle.model.specs.Rules.{B4, B5, B6, B7, B8, B9, B5_to_B9, each_composition};
@@ -12,9 +12,11 @@ ghost use Rattle.book_rules.specs.Table.{Kept};
 ghost use Rattle.book_rules.specs.RuleLaws.{unspecified};
 ghost use Rattle.book_rules.specs.CompositionLaws.{if_composed, of_system};
 ghost use Rattle.book_rules.specs.Test as test;
+ghost use Rattle.refusal.specs.Numbers.{code};
 ghost use Rattle.book_test.specs.Rules.{rule_at};
 
 use book::Book;
+use refusal::Refusal;
 
 // ---- a rule of every composition. Only B5 may be asked before B4 and B5 are known.
 
@@ -229,4 +231,14 @@ pub fn is_book(b: Book) -> bool
     ensures { result ≡ test.passes b.sets b.numbers }
 {
     passes(&b)
+}
+
+// The test for 25, as a call on any Book puts it before its other questions.
+pub fn tested(book: &Book) -> Result<(), Refusal>
+    ensures { code result ≡ (if? test.passes book.now.sets book.now.numbers then 0 else 25) }
+{
+    if !passes(book) {
+        return Err(Refusal::NoBook);
+    }
+    Ok(())
 }

@@ -4,31 +4,17 @@
 ghost use Rattle.names_test.specs.Answered.{IsTextCall};
 
 use book::Book;
+use book_test::tested;
 use names::Names;
-use names_test::Text;
+use refusal::Refusal;
 
-fn text_in(out: &mut [u8], book: &Book, names: &Names) -> Text
+// The text of a Book with its tables, at the start of a lent slice: how many bytes it has. Nothing is written where the call is refused.
+pub fn text_of(book: &Book, names: &Names, out: &mut [u8]) -> Result<usize, Refusal>
     ensures { IsTextCall book.now names.now out.old result out.new }
 {
-    if !book_test::passes(book) {
-        return Text { answer: 25, len: 0 };
-    }
+    tested(book)?;
     if !names_test::names_hold(book, names) {
-        return Text { answer: 25, len: 0 };
+        return Err(Refusal::NoBook);
     }
-    let wrote = write_book::text(out, book, names);
-    if !wrote.fits {
-        return Text { answer: 22, len: 0 };
-    }
-    Text {
-        answer: 0,
-        len: wrote.len,
-    }
-}
-
-// The text of a Book with its tables, at the start of a lent slice; nothing is written where the call is refused.
-pub fn text_of(b: Book, names: Names, out: &mut [u8]) -> Text
-    ensures { IsTextCall b names out.old result out.new }
-{
-    text_in(out, &b, &names)
+    write_book::text(out, book, names).ok_or(Refusal::DoesNotFit)
 }

@@ -8,8 +8,10 @@ ghost use Rattle.model.specs.Commands.{DEL-SPEC, DEL-MOD, DEL-SYS, DEL-MODVAR, D
 ghost use Rattle.model.specs.Questions.{usable_in_none, held_by_none};
 ghost use Rattle.command_outcome.specs.Outcome.{Called};
 ghost use Rattle.command_delete.specs.Asked.{not_usable_in, not_held_at, not_held_in};
+ghost use Rattle.refusal.specs.Numbers.{code};
 
 use book::Book;
+use refusal::Refusal;
 
 // ---- questions
 
@@ -71,116 +73,110 @@ fn held_by_none(book: &Book, c: usize, v: usize) -> bool
     true
 }
 
-// ---- commands on a Book that passes the test for 25, which is changed only where the answer is 0
+// ---- commands on a Book that passes the test for 25, which is changed only where it is accepted
 
 // DEL-SPEC.
-pub fn del_spec_in(book: &mut Book, c: usize) -> u8
+pub fn del_spec_in(book: &mut Book, c: usize) -> Result<(), Refusal>
     requires { test.passes book.old.sets book.old.numbers ≡ true }
     ensures sets_kept { book.new.sets ≡ book.old.sets }
-    ensures called { Called book.old.sets book.old.numbers (DEL-SPEC c) result book.new.sets book.new.numbers }
+    ensures called { Called book.old.sets book.old.numbers (DEL-SPEC c) (code result) book.new.sets book.new.numbers }
 {
     if 32 <= c {
-        return 1;
+        return Err(Refusal::TooLarge);
     }
     if !book.is_specified(c) {
-        return 4;
+        return Err(Refusal::NotSpecified);
     }
     if !usable_in_none(book, c) {
-        return 18;
+        return Err(Refusal::Held);
     }
     book_take::take_spec(book, c);
-    0
+    Ok(())
 }
 
 // DEL-MOD.
-pub fn del_mod_in(book: &mut Book, c: usize) -> u8
+pub fn del_mod_in(book: &mut Book, c: usize) -> Result<(), Refusal>
     requires { test.passes book.old.sets book.old.numbers ≡ true }
     ensures sets_kept { book.new.sets ≡ book.old.sets }
-    ensures called { Called book.old.sets book.old.numbers (DEL-MOD c) result book.new.sets book.new.numbers }
+    ensures called { Called book.old.sets book.old.numbers (DEL-MOD c) (code result) book.new.sets book.new.numbers }
 {
     if 32 <= c {
-        return 1;
+        return Err(Refusal::TooLarge);
     }
     if !book.is_module(c) {
-        return 6;
+        return Err(Refusal::NoModule);
     }
     book_take::take_mod(book, c);
-    0
+    Ok(())
 }
 
 // DEL-SYS: B5 to B9 are asked of every system that is left.
-pub fn del_sys_in(book: &mut Book, c: usize) -> u8
+pub fn del_sys_in(book: &mut Book, c: usize) -> Result<(), Refusal>
     requires { test.passes book.old.sets book.old.numbers ≡ true }
     ensures sets_kept { book.new.sets ≡ book.old.sets }
-    ensures called { Called book.old.sets book.old.numbers (DEL-SYS c) result book.new.sets book.new.numbers }
+    ensures called { Called book.old.sets book.old.numbers (DEL-SYS c) (code result) book.new.sets book.new.numbers }
 {
     if 32 <= c {
-        return 1;
+        return Err(Refusal::TooLarge);
     }
     if !book.is_system(c) {
-        return 7;
+        return Err(Refusal::NoSystem);
     }
     let mut left = *book;
     book_take::take_sys(&mut left, c);
     if !book_test::b5_to_b9(&left) {
-        return 21;
+        return Err(Refusal::BreaksB5ToB9);
     }
     *book = left;
-    0
+    Ok(())
 }
 
 // DEL-MODVAR.
-pub fn del_modvar_in(book: &mut Book, c: usize, v: usize) -> u8
+pub fn del_modvar_in(book: &mut Book, c: usize, v: usize) -> Result<(), Refusal>
     requires { test.passes book.old.sets book.old.numbers ≡ true }
     ensures sets_kept { book.new.sets ≡ book.old.sets }
-    ensures called { Called book.old.sets book.old.numbers (DEL-MODVAR c v) result book.new.sets book.new.numbers }
+    ensures called { Called book.old.sets book.old.numbers (DEL-MODVAR c v) (code result) book.new.sets book.new.numbers }
 {
-    if 32 <= c {
-        return 1;
-    }
-    if 64 <= v {
-        return 1;
+    if 32 <= c || 64 <= v {
+        return Err(Refusal::TooLarge);
     }
     if !book.is_module(c) {
-        return 6;
+        return Err(Refusal::NoModule);
     }
     if !book.has_version(c, v) {
-        return 10;
+        return Err(Refusal::NoVersion);
     }
     if book.standard(c) == v {
-        return 15;
+        return Err(Refusal::Standard);
     }
     if !held_by_none(book, c, v) {
-        return 18;
+        return Err(Refusal::Held);
     }
     book_take::take_modvar(book, c, v);
-    0
+    Ok(())
 }
 
 // DEL-SYSVAR.
-pub fn del_sysvar_in(book: &mut Book, s: usize, v: usize) -> u8
+pub fn del_sysvar_in(book: &mut Book, s: usize, v: usize) -> Result<(), Refusal>
     requires { test.passes book.old.sets book.old.numbers ≡ true }
     ensures sets_kept { book.new.sets ≡ book.old.sets }
-    ensures called { Called book.old.sets book.old.numbers (DEL-SYSVAR s v) result book.new.sets book.new.numbers }
+    ensures called { Called book.old.sets book.old.numbers (DEL-SYSVAR s v) (code result) book.new.sets book.new.numbers }
 {
-    if 32 <= s {
-        return 1;
-    }
-    if 64 <= v {
-        return 1;
+    if 32 <= s || 64 <= v {
+        return Err(Refusal::TooLarge);
     }
     if !book.is_system(s) {
-        return 7;
+        return Err(Refusal::NoSystem);
     }
     if !book.has_version(s, v) {
-        return 10;
+        return Err(Refusal::NoVersion);
     }
     if book.standard(s) == v {
-        return 15;
+        return Err(Refusal::Standard);
     }
     if !held_by_none(book, s, v) {
-        return 18;
+        return Err(Refusal::Held);
     }
     book_take::take_sysvar(book, s, v);
-    0
+    Ok(())
 }

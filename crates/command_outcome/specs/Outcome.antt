@@ -10,8 +10,8 @@ use Rattle.sets.specs.Tests.{if?◌then◌else◌}
 unfoldable pub answered : List ℕ → List ℕ → Command → ℕ
 answered s n k = if? passes s n then answer (plain_of s n) k else 25
 
--- The call of the command k on the Book s n answers a and hands the Book s' n' back: the plain book's answer with 25 first; refused, the
--- Book handed in; accepted, a Book that holds the plain book's next and passes the test for 25.
+-- The call of the command k on the Book s n answers a and leaves the Book s' n': the plain book's answer with 25 first; refused, the Book
+-- as it was; accepted, a Book that holds the plain book's next and passes the test for 25.
 pub record Called (s n : List ℕ) (k : Command) (a : ℕ) (s' n' : List ℕ) : Type 0 where
   pub answer_is : a ≡ answered s n k
   pub refused : (a ≡ 0 → ⊥) → (s' ≡ s) × (n' ≡ n)

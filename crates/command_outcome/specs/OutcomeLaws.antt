@@ -13,6 +13,9 @@ use Rattle.book_rules.specs.Test.{passes}
 use Rattle.book_rules.specs.TestLaws.{passes_plain, plain_passes}
 use Rattle.sets.specs.TestLaws.{if-false, if-true}
 use Rattle.model_laws.specs.Sequence.{next_passes}
+use Rattle.refusal.specs.NumberLaws.{no_number_0}
+use Rattle.refusal.specs.Numbers.{number}
+use Rattle.refusal.specs.declared.Refusal.{Refusal}
 
 -- ---- outcomes on a Book that passes
 
@@ -44,6 +47,10 @@ module _ (s n : List ℕ) (k : Command) (good : passes s n ≡ true) where
   -- the answer of the questions, put by a function of their own
   pub refuse_any : (r : ℕ) → r ≡ answer (plain_of s n) k → r ≢ 0 → Called s n k r s n
   refuse_any r e ne = record { answer_is = e ∙ sym answered_is; refused = λ _. (refl, refl); accepted = λ z. absurd (ne z) }
+
+  -- the refusal e, handed on
+  pub refuse_as : (e : Refusal) (r : ℕ) → r ≡ number e → number e ≡ answer (plain_of s n) k → Called s n k r s n
+  refuse_as e r is asked = refuse_any r (is ∙ asked) (λ z. no_number_0 e (sym is ∙ z))
 
 -- a Book that is none
 pub refuse_25 : (s n : List ℕ) (k : Command) → passes s n ≡ false → Called s n k 25 s n

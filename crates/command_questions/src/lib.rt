@@ -1,4 +1,4 @@
-// The questions that are put to the adding commands, of what is gathered of their lists: the number at the first no, 0 without one.
+// The questions that are put to the adding commands, of what is gathered of their lists: the first no refuses.
 #![tactic(auto)]
 
 ghost use Rattle.std.specs.Prelude.{◌≡◌, ◌<◌};
@@ -8,9 +8,11 @@ ghost use Rattle.book.specs.Plain.{plain};
 ghost use Rattle.command_lists.specs.Views.{numbers_view, compositions_view, usable_view};
 ghost use Rattle.command_lists.specs.Answers.{mod_answer};
 ghost use Rattle.command_questions.specs.Asked.{sys_asked};
+ghost use Rattle.refusal.specs.Numbers.{code};
 
 use book::Book;
 use command_lists::{Compositions, Numbers, Usable};
+use refusal::Refusal;
 
 // ---- ADD-MOD
 
@@ -22,74 +24,59 @@ fn is_defined(book: &Book, c: usize) -> bool
     book.is_module(c) | book.is_system(c)
 }
 
-pub fn mod_answer(book: &Book, c: usize, g: Numbers) -> u8
-    ensures { result ≡ mod_answer (plain book.now) c (numbers_view g) }
+pub fn mod_answer(book: &Book, c: usize, g: Numbers) -> Result<(), Refusal>
+    ensures { code result ≡ mod_answer (plain book.now) c (numbers_view g) }
 {
-    if 32 <= c {
-        return 1;
-    }
-    if g.large {
-        return 1;
+    if 32 <= c || g.large {
+        return Err(Refusal::TooLarge);
     }
     if g.listed == 0 {
-        return 2;
+        return Err(Refusal::Empty);
     }
     if g.twice {
-        return 3;
+        return Err(Refusal::Twice);
     }
     if !book.is_specified(c) {
-        return 4;
+        return Err(Refusal::NotSpecified);
     }
     if is_defined(book, c) {
-        return 8;
+        return Err(Refusal::Defined);
     }
     if book.versions(c) != g.listed {
-        return 9;
+        return Err(Refusal::OtherVersions);
     }
-    0
+    Ok(())
 }
 
 // ---- ADD-SYS
 
 // Its questions before those that are put to the book afterwards.
-pub fn sys_asked(book: &Book, c: usize, u: Usable, g: Compositions) -> u8
-    ensures { result ≡ first_no (sys_asked (plain book.now) c (usable_view u) (compositions_view g)) }
+pub fn sys_asked(book: &Book, c: usize, u: Usable, g: Compositions) -> Result<(), Refusal>
+    ensures { code result ≡ first_no (sys_asked (plain book.now) c (usable_view u) (compositions_view g)) }
 {
-    if 32 <= c {
-        return 1;
+    if 32 <= c || u.large || g.large {
+        return Err(Refusal::TooLarge);
     }
-    if u.large {
-        return 1;
+    if g.listed == 0 || g.empty {
+        return Err(Refusal::Empty);
     }
-    if g.large {
-        return 1;
-    }
-    if g.listed == 0 {
-        return 2;
-    }
-    if g.empty {
-        return 2;
-    }
-    if g.twice {
-        return 3;
-    }
-    if u.twice {
-        return 3;
+    if g.twice || u.twice {
+        return Err(Refusal::Twice);
     }
     if !book.is_specified(c) {
-        return 4;
+        return Err(Refusal::NotSpecified);
     }
     if is_defined(book, c) {
-        return 8;
+        return Err(Refusal::Defined);
     }
     if book.versions(c) != g.listed {
-        return 9;
+        return Err(Refusal::OtherVersions);
     }
     if !book_rules::all_bare(book, c) {
-        return 16;
+        return Err(Refusal::Requires);
     }
     if !sets::subset(sets::below_32(u.set), book_rules::specified_set(book)) {
-        return 17;
+        return Err(Refusal::UsableNotSpecified);
     }
-    0
+    Ok(())
 }

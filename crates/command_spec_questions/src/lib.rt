@@ -8,9 +8,11 @@ ghost use Rattle.book.specs.Plain.{plain, facility_set};
 ghost use Rattle.command_lists.specs.Views.{sets_view};
 ghost use Rattle.command_lists.specs.Answers.{spec_answer};
 ghost use Rattle.command_questions.specs.Asked.{free_at};
+ghost use Rattle.refusal.specs.Numbers.{code};
 
 use book::Book;
 use command_lists::Sets;
+use refusal::Refusal;
 
 // Question 13, for one version: is what it requires, if it is listed, free of the facilities provided?
 fn is_free(provided: u64, listed: bool, required: u64) -> bool
@@ -34,35 +36,35 @@ fn all_free(provided: u64, g: Sets) -> bool
     true
 }
 
-pub fn spec_answer(book: &Book, c: usize, provided: u64, g: Sets, standard: usize) -> u8
-    ensures { result ≡ spec_answer (plain book.now) c (bit provided) (sets_view g) standard }
+pub fn spec_answer(
+    book: &Book,
+    c: usize,
+    provided: u64,
+    g: Sets,
+    standard: usize,
+) -> Result<(), Refusal>
+    ensures { code result ≡ spec_answer (plain book.now) c (bit provided) (sets_view g) standard }
 {
-    if 32 <= c {
-        return 1;
-    }
-    if g.large {
-        return 1;
-    }
-    if 64 <= standard {
-        return 1;
+    if 32 <= c || g.large || 64 <= standard {
+        return Err(Refusal::TooLarge);
     }
     if g.listed == 0 {
-        return 2;
+        return Err(Refusal::Empty);
     }
     if g.twice {
-        return 3;
+        return Err(Refusal::Twice);
     }
     if book.is_specified(c) {
-        return 5;
+        return Err(Refusal::Specified);
     }
     if 8 < sets::count(g.listed) {
-        return 12;
+        return Err(Refusal::NinthVersion);
     }
     if !all_free(provided, g) {
-        return 13;
+        return Err(Refusal::RequiresItsOwn);
     }
     if !sets::member(g.listed, standard) {
-        return 14;
+        return Err(Refusal::StandardNotListed);
     }
-    0
+    Ok(())
 }

@@ -10,9 +10,11 @@ ghost use Rattle.book.specs.Plain.{plain};
 ghost use Rattle.command_lists.specs.Views.{composition_view};
 ghost use Rattle.command_lists.specs.Answers.{modvar_answer};
 ghost use Rattle.command_questions.specs.Asked.{sysvar_asked};
+ghost use Rattle.refusal.specs.Numbers.{code};
 
 use book::Book;
 use command_lists::Composition;
+use refusal::Refusal;
 
 // ---- ADD-MODVAR
 
@@ -24,62 +26,56 @@ fn has_room(book: &Book, c: usize) -> bool
     sets::count(book.versions(c)) < 8
 }
 
-pub fn modvar_answer(book: &Book, c: usize, v: usize, required: u64, i: usize) -> u8
-    ensures { result ≡ modvar_answer (plain book.now) c v (bit required) i }
+pub fn modvar_answer(
+    book: &Book,
+    c: usize,
+    v: usize,
+    required: u64,
+    i: usize,
+) -> Result<(), Refusal>
+    ensures { code result ≡ modvar_answer (plain book.now) c v (bit required) i }
 {
-    if 32 <= c {
-        return 1;
-    }
-    if 64 <= v {
-        return 1;
-    }
-    if 256 <= i {
-        return 1;
+    if 32 <= c || 64 <= v || 256 <= i {
+        return Err(Refusal::TooLarge);
     }
     if !book.is_module(c) {
-        return 6;
+        return Err(Refusal::NoModule);
     }
     if book.has_version(c, v) {
-        return 11;
+        return Err(Refusal::HasVersion);
     }
     if !has_room(book, c) {
-        return 12;
+        return Err(Refusal::NinthVersion);
     }
     if !sets::disjoint(book.provides(c), required) {
-        return 13;
+        return Err(Refusal::RequiresItsOwn);
     }
-    0
+    Ok(())
 }
 
 // ---- ADD-SYSVAR
 
 // Its questions before the one that is put to the book afterwards.
-pub fn sysvar_asked(book: &Book, c: usize, v: usize, g: Composition) -> u8
-    ensures { result ≡ first_no (sysvar_asked (plain book.now) c v (composition_view g)) }
+pub fn sysvar_asked(book: &Book, c: usize, v: usize, g: Composition) -> Result<(), Refusal>
+    ensures { code result ≡ first_no (sysvar_asked (plain book.now) c v (composition_view g)) }
 {
-    if 32 <= c {
-        return 1;
-    }
-    if 64 <= v {
-        return 1;
-    }
-    if g.large {
-        return 1;
+    if 32 <= c || 64 <= v || g.large {
+        return Err(Refusal::TooLarge);
     }
     if sets::below_32(g.members) == 0 {
-        return 2;
+        return Err(Refusal::Empty);
     }
     if g.twice {
-        return 3;
+        return Err(Refusal::Twice);
     }
     if !book.is_system(c) {
-        return 7;
+        return Err(Refusal::NoSystem);
     }
     if book.has_version(c, v) {
-        return 11;
+        return Err(Refusal::HasVersion);
     }
     if !has_room(book, c) {
-        return 12;
+        return Err(Refusal::NinthVersion);
     }
-    0
+    Ok(())
 }

@@ -5,183 +5,130 @@
 ghost use Rattle.model.specs.Commands.{DEL-SPEC, DEL-MOD, DEL-SYS, DEL-MODVAR, DEL-SYSVAR};
 ghost use Rattle.command_outcome.specs.Outcome.{Called};
 ghost use Rattle.command_outcome.specs.Calls.{command_of, add_spec, add_mod, add_sys, add_modvar, add_sysvar};
+ghost use Rattle.refusal.specs.Numbers.{code};
 
 use book::Book;
-
-// What a command gives back: its answer, 0 where it is accepted, and the Book.
-#[derive(Clone, Copy)]
-pub struct Outcome {
-    pub answer: u8,
-    pub book: Book,
-}
+use refusal::Refusal;
 
 // ADD-SPEC, on any Book: the facilities provided as a set; versions, and for each the set of the facilities that it requires.
 pub fn add_spec(
-    b: Book,
+    book: &mut Book,
     c: usize,
     provided: u64,
     versions: &[usize],
     required: &[u64],
     standard: usize,
-) -> Outcome
-    ensures { Called b.sets b.numbers (command_of (add_spec c provided versions.now required.now standard)) result.answer result.book.sets result.book.numbers }
+) -> Result<(), Refusal>
+    ensures { Called book.old.sets book.old.numbers (command_of (add_spec c provided versions.now required.now standard))
+        (code result) book.new.sets book.new.numbers }
 {
-    if !book_test::passes(&b) {
-        return Outcome {
-            answer: 25,
-            book: b,
-        };
-    }
+    book_test::tested(book)?;
     let g = command_slices::sets_of(versions, required);
-    let mut book = b;
-    let answer = command_add::add_spec_in(&mut book, c, provided, g, standard);
-    Outcome { answer, book }
+    command_add::add_spec_in(book, c, provided, g, standard)
 }
 
 // ADD-MOD, on any Book: versions, and for each its implementation.
-pub fn add_mod(b: Book, c: usize, versions: &[usize], implementations: &[usize]) -> Outcome
-    ensures { Called b.sets b.numbers (command_of (add_mod c versions.now implementations.now)) result.answer result.book.sets result.book.numbers }
+pub fn add_mod(
+    book: &mut Book,
+    c: usize,
+    versions: &[usize],
+    implementations: &[usize],
+) -> Result<(), Refusal>
+    ensures { Called book.old.sets book.old.numbers (command_of (add_mod c versions.now implementations.now))
+        (code result) book.new.sets book.new.numbers }
 {
-    if !book_test::passes(&b) {
-        return Outcome {
-            answer: 25,
-            book: b,
-        };
-    }
+    book_test::tested(book)?;
     let g = command_slices::numbers_of(versions, implementations);
-    let mut book = b;
-    let answer = command_add::add_mod_in(&mut book, c, g);
-    Outcome { answer, book }
+    command_add::add_mod_in(book, c, g)
 }
 
 // ADD-MODVAR, on any Book: the facilities required as a set.
-pub fn add_modvar(b: Book, c: usize, v: usize, required: u64, implementation: usize) -> Outcome
-    ensures { Called b.sets b.numbers (command_of (add_modvar c v required implementation)) result.answer result.book.sets result.book.numbers }
+pub fn add_modvar(
+    book: &mut Book,
+    c: usize,
+    v: usize,
+    required: u64,
+    implementation: usize,
+) -> Result<(), Refusal>
+    ensures { Called book.old.sets book.old.numbers (command_of (add_modvar c v required implementation))
+        (code result) book.new.sets book.new.numbers }
 {
-    if !book_test::passes(&b) {
-        return Outcome {
-            answer: 25,
-            book: b,
-        };
-    }
-    let mut book = b;
-    let answer = command_add::add_modvar_in(&mut book, c, v, required, implementation);
-    Outcome { answer, book }
+    book_test::tested(book)?;
+    command_add::add_modvar_in(book, c, v, required, implementation)
 }
 
 // ADD-SYS, on any Book: usable components; versions, and for each the length of its composition; the members of all compositions one
 // after the other, and for each its version or command_lists::LEFT_OUT.
 pub fn add_sys(
-    b: Book,
+    book: &mut Book,
     c: usize,
     usable: &[usize],
     versions: &[usize],
     lengths: &[usize],
     members: &[usize],
     chosen: &[usize],
-) -> Outcome
-    ensures { Called b.sets b.numbers (command_of (add_sys c usable.now versions.now lengths.now members.now chosen.now)) result.answer result.book.sets result.book.numbers }
+) -> Result<(), Refusal>
+    ensures { Called book.old.sets book.old.numbers (command_of (add_sys c usable.now versions.now lengths.now members.now chosen.now))
+        (code result) book.new.sets book.new.numbers }
 {
-    if !book_test::passes(&b) {
-        return Outcome {
-            answer: 25,
-            book: b,
-        };
-    }
+    book_test::tested(book)?;
     let u = command_slices::usable_of(usable);
     let g = command_slices::compositions_of(versions, lengths, members, chosen);
-    let mut book = b;
-    let answer = command_add::add_sys_in(&mut book, c, u, g);
-    Outcome { answer, book }
+    command_add::add_sys_in(book, c, u, g)
 }
 
 // ADD-SYSVAR, on any Book: members, and for each its version or command_lists::LEFT_OUT.
-pub fn add_sysvar(b: Book, c: usize, v: usize, members: &[usize], chosen: &[usize]) -> Outcome
-    ensures { Called b.sets b.numbers (command_of (add_sysvar c v members.now chosen.now)) result.answer result.book.sets result.book.numbers }
+pub fn add_sysvar(
+    book: &mut Book,
+    c: usize,
+    v: usize,
+    members: &[usize],
+    chosen: &[usize],
+) -> Result<(), Refusal>
+    ensures { Called book.old.sets book.old.numbers (command_of (add_sysvar c v members.now chosen.now))
+        (code result) book.new.sets book.new.numbers }
 {
-    if !book_test::passes(&b) {
-        return Outcome {
-            answer: 25,
-            book: b,
-        };
-    }
+    book_test::tested(book)?;
     let g = command_slices::composition_of(members, chosen);
-    let mut book = b;
-    let answer = command_add::add_sysvar_in(&mut book, c, v, g);
-    Outcome { answer, book }
+    command_add::add_sysvar_in(book, c, v, g)
 }
 
 // DEL-SPEC, on any Book.
-pub fn del_spec(b: Book, c: usize) -> Outcome
-    ensures { Called b.sets b.numbers (DEL-SPEC c) result.answer result.book.sets result.book.numbers }
+pub fn del_spec(book: &mut Book, c: usize) -> Result<(), Refusal>
+    ensures { Called book.old.sets book.old.numbers (DEL-SPEC c) (code result) book.new.sets book.new.numbers }
 {
-    if !book_test::passes(&b) {
-        return Outcome {
-            answer: 25,
-            book: b,
-        };
-    }
-    let mut book = b;
-    let answer = command_delete::del_spec_in(&mut book, c);
-    Outcome { answer, book }
+    book_test::tested(book)?;
+    command_delete::del_spec_in(book, c)
 }
 
 // DEL-MOD, on any Book.
-pub fn del_mod(b: Book, c: usize) -> Outcome
-    ensures { Called b.sets b.numbers (DEL-MOD c) result.answer result.book.sets result.book.numbers }
+pub fn del_mod(book: &mut Book, c: usize) -> Result<(), Refusal>
+    ensures { Called book.old.sets book.old.numbers (DEL-MOD c) (code result) book.new.sets book.new.numbers }
 {
-    if !book_test::passes(&b) {
-        return Outcome {
-            answer: 25,
-            book: b,
-        };
-    }
-    let mut book = b;
-    let answer = command_delete::del_mod_in(&mut book, c);
-    Outcome { answer, book }
+    book_test::tested(book)?;
+    command_delete::del_mod_in(book, c)
 }
 
 // DEL-SYS, on any Book.
-pub fn del_sys(b: Book, c: usize) -> Outcome
-    ensures { Called b.sets b.numbers (DEL-SYS c) result.answer result.book.sets result.book.numbers }
+pub fn del_sys(book: &mut Book, c: usize) -> Result<(), Refusal>
+    ensures { Called book.old.sets book.old.numbers (DEL-SYS c) (code result) book.new.sets book.new.numbers }
 {
-    if !book_test::passes(&b) {
-        return Outcome {
-            answer: 25,
-            book: b,
-        };
-    }
-    let mut book = b;
-    let answer = command_delete::del_sys_in(&mut book, c);
-    Outcome { answer, book }
+    book_test::tested(book)?;
+    command_delete::del_sys_in(book, c)
 }
 
 // DEL-MODVAR, on any Book.
-pub fn del_modvar(b: Book, c: usize, v: usize) -> Outcome
-    ensures { Called b.sets b.numbers (DEL-MODVAR c v) result.answer result.book.sets result.book.numbers }
+pub fn del_modvar(book: &mut Book, c: usize, v: usize) -> Result<(), Refusal>
+    ensures { Called book.old.sets book.old.numbers (DEL-MODVAR c v) (code result) book.new.sets book.new.numbers }
 {
-    if !book_test::passes(&b) {
-        return Outcome {
-            answer: 25,
-            book: b,
-        };
-    }
-    let mut book = b;
-    let answer = command_delete::del_modvar_in(&mut book, c, v);
-    Outcome { answer, book }
+    book_test::tested(book)?;
+    command_delete::del_modvar_in(book, c, v)
 }
 
 // DEL-SYSVAR, on any Book.
-pub fn del_sysvar(b: Book, c: usize, v: usize) -> Outcome
-    ensures { Called b.sets b.numbers (DEL-SYSVAR c v) result.answer result.book.sets result.book.numbers }
+pub fn del_sysvar(book: &mut Book, c: usize, v: usize) -> Result<(), Refusal>
+    ensures { Called book.old.sets book.old.numbers (DEL-SYSVAR c v) (code result) book.new.sets book.new.numbers }
 {
-    if !book_test::passes(&b) {
-        return Outcome {
-            answer: 25,
-            book: b,
-        };
-    }
-    let mut book = b;
-    let answer = command_delete::del_sysvar_in(&mut book, c, v);
-    Outcome { answer, book }
+    book_test::tested(book)?;
+    command_delete::del_sysvar_in(book, c, v)
 }

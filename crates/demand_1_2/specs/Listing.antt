@@ -2,7 +2,8 @@
 -- rows and zeroed slice." What its listing is made of, command by command.
 use Rattle.std.specs.Prelude.{true, List, [], ◌++◌, ◌∷◌, map, ◌⊎◌, ◌≡◌, suc, ℕ, drop, length, replicate, take}
 use Rattle.model.specs.Lists.{elem}
-use Rattle.svcd.specs.Reached.{state_in}
+use Rattle.refusal.specs.Numbers.{code, found}
+use Rattle.session_state.specs.State.{plain_state}
 use Rattle.svcd.specs.declared.SessionEnd.{SessionEnd}
 use Rattle.text.specs.Bytes.{Text}
 use Rattle.text.specs.Language.{OUT, Said, command, over, said, wrong}
@@ -39,11 +40,11 @@ pub data Listing : ℕ → State → Text → Text → State → Type 0 where
 -- A session on the text t and the slice `old`, which is `new` then, that gave r.
 pub record Demand1 (t : Text) (old new : List ℕ) (r : SessionEnd) : Type 0 where
   -- "Only 22 refuses a session itself."
-  pub answers : (r.answer ≡ 0) ⊎ (r.answer ≡ 22)
+  pub answers : (code r.answer ≡ 0) ⊎ (code r.answer ≡ 22)
   -- Accepted, it has put the listing of the text into the slice, from command 1 and an empty session on, and hands back the state in the end;
-  pub listing : r.answer ≡ 0 → Listing 1 fresh t (take r.len new) (state_in r)
+  pub listing : code r.answer ≡ 0 → Listing 1 fresh t (take (found r.answer) new) (plain_state r.state)
   -- the slice is as long as it was, and behind the listing it is as it was.
   pub as_long : length new ≡ length old
-  pub behind : r.answer ≡ 0 → drop r.len new ≡ drop r.len old
+  pub behind : code r.answer ≡ 0 → drop (found r.answer) new ≡ drop (found r.answer) old
   -- "A listing longer than the slice gives 22 and a slice of zeros"; "after 22 both are empty"
-  pub zeroed : r.answer ≡ 22 → (r.len ≡ 0) × (new ≡ replicate (length old) 0) × (state_in r ≡ fresh)
+  pub zeroed : code r.answer ≡ 22 → (found r.answer ≡ 0) × (new ≡ replicate (length old) 0) × (plain_state r.state ≡ fresh)

@@ -5,6 +5,7 @@ use Rattle.std.proofs.Math.Path.{subst}
 use Rattle.std.proofs.lemmas.List.{length-replicate}
 use Rattle.sets.specs.TestLaws.{≤_or_<}
 use Rattle.sets.specs.Tests.{◌&◌, ◌≤?◌}
+use Rattle.refusal.specs.Numbers.{code, found}
 use Rattle.svcd.specs.Reached.{SessionCall}
 use Rattle.svcd.specs.declared.SessionEnd.{SessionEnd}
 use Rattle.text.specs.Bytes.{Text}
@@ -82,10 +83,10 @@ module _ {t : Text} {old new : List ℕ} {r : SessionEnd} (k : SessionCall t old
   fits_or : (length (session t).0 ≤ length old) ⊎ (length old < length (session t).0)
   fits_or = ≤_or_< _ _
 
-  fits-if : r.answer ≡ 0 → length (session t).0 ≤ length old
+  fits-if : code r.answer ≡ 0 → length (session t).0 ≤ length old
   fits-if z = elim fits_or [ inl h ↦ h | inr h ↦ absurd (let e = (too_long_lem k h).0 in omega arith) ]
 
-  short_if : r.answer ≡ 22 → length old < length (session t).0
+  short_if : code r.answer ≡ 22 → length old < length (session t).0
   short_if z = elim fits_or [ inl h ↦ absurd (let e = (listed k h).0 in omega arith) | inr h ↦ h ]
 
   -- demand 1 of the library's session, for every text and every slice
@@ -93,15 +94,15 @@ module _ {t : Text} {old new : List ℕ} {r : SessionEnd} (k : SessionCall t old
   demand-1 = record {
     answers = elim fits_or [ inl h ↦ inl (listed k h).0 | inr h ↦ inr (too_long_lem k h).0 ];
     listing = λ z. (let l = listed k (fits-if z) in
-        subst (λ (s : State). Listing 1 fresh t (take r.len new) s) (sym l.3)
+        subst (λ (s : State). Listing 1 fresh t (take (found r.answer) new) s) (sym l.3)
         (subst (λ (w : Text). Listing 1 fresh t w (session t).1)
-        (sym (ap (take r.len) l.2 ∙ take_at (session t).0 _ r.len (sym l.1))) (session_listing t)));
+        (sym (ap (take (found r.answer)) l.2 ∙ take_at (session t).0 _ (found r.answer) (sym l.1))) (session_listing t)));
     as_long = elim fits_or [
       | inl h ↦ ap length (listed k h).2 ∙ all-filled h
       | inr h ↦ ap length (too_long_lem k h).2 ∙ length-replicate (length old) 0
     ];
     behind = λ z. (let l = listed k (fits-if z) in
-        ap (drop r.len) l.2 ∙ drop_at (session t).0 _ r.len (sym l.1) ∙ ap (λ (n : ℕ). drop n old) (sym l.1));
+        ap (drop (found r.answer)) l.2 ∙ drop_at (session t).0 _ (found r.answer) (sym l.1) ∙ ap (λ (n : ℕ). drop n old) (sym l.1));
     zeroed = λ z. (let l = too_long_lem k (short_if z) in (l.1, l.2, l.3));
   }
     where

@@ -9,8 +9,9 @@ use Rattle.sets.specs.TestLaws.{≤_or_<}
 use Rattle.names_test.specs.Answered.{TextCall, handed}
 use Rattle.names_test.specs.Demand.{answered_named, answered_text}
 use Rattle.names_test.specs.Demand as demand
-use Rattle.names_test.specs.declared.Text as called
-use Rattle.svcd.specs.Reached.{SessionCall, state_in}
+use Rattle.refusal.specs.Numbers.{code, found}
+use Rattle.session_state.specs.State.{plain_state}
+use Rattle.svcd.specs.Reached.{SessionCall}
 use Rattle.svcd.specs.declared.SessionEnd.{SessionEnd}
 use Rattle.text.specs.Bytes.{Text}
 use Rattle.text.specs.Handed.{PassesNamed}
@@ -36,13 +37,13 @@ module _ {s : State} (p : PassesNamed s) {slice after : List ℕ} {r : SessionEn
   rows_listed : length (session (text_of s)).0 ≡ length (rows_back s)
   rows_listed = ap length (reads_back s p).0
 
-  all_listed : length (rows_back s) ≤ length slice → (r.answer ≡ 0) × (take r.len after ≡ rows_back s)
+  all_listed : length (rows_back s) ≤ length slice → (code r.answer ≡ 0) × (take (found r.answer) after ≡ rows_back s)
   all_listed h =
       let l = listed q (let e = rows_listed in omega arith) in
-      (l.0, ap (take r.len) l.2 ∙ take_at (session (text_of s)).0 _ r.len (sym l.1) ∙ (reads_back s p).0)
+      (l.0, ap (take (found r.answer)) l.2 ∙ take_at (session (text_of s)).0 _ (found r.answer) (sym l.1) ∙ (reads_back s p).0)
 
   short_refused : length slice < length (rows_back s)
-      → (r.answer ≡ 22) × (r.len ≡ 0) × (after ≡ replicate (length slice) 0) × (state_in r ≡ fresh)
+      → (code r.answer ≡ 22) × (found r.answer ≡ 0) × (after ≡ replicate (length slice) 0) × (plain_state r.state ≡ fresh)
   short_refused h = too_long_lem q (let e = rows_listed in omega arith)
 
   -- a book that is the same as none by names has no rows
@@ -51,7 +52,7 @@ module _ {s : State} (p : PassesNamed s) {slice after : List ℕ} {r : SessionEn
       sym rows_listed ∙ ap (λ (w : Text). length (session w).0) (sym ((texts.equal_texts fresh s fresh_passes p).1 e))
       ∙ ap length (reads_back fresh fresh_passes).0 ∙ no_rows
 
-  back_exactly : (length (rows_back s) ≤ length slice) ↔ Same (state_in r) s
+  back_exactly : (length (rows_back s) ≤ length slice) ↔ Same (plain_state r.state) s
   back_exactly = (
     λ h. subst (λ (x : State). Same x s) (sym q.state) (reads_back_in s p slice h),
     λ e. elim (≤_or_< (length (rows_back s)) (length slice)) [
@@ -62,36 +63,36 @@ module _ {s : State} (p : PassesNamed s) {slice after : List ℕ} {r : SessionEn
 
 -- ---- what `text_of` wrote, read by `session`
 
-module _ {s n c v f i old : List ℕ} {w : called.Text} {new : List ℕ} (k : TextCall s n c v f i old w new) (z : w.answer ≡ 0)
-    {slice after : List ℕ} {r : SessionEnd} (q : SessionCall (take w.len new) slice after r) where
+module _ {s n c v f i old : List ℕ} {a len : ℕ} {new : List ℕ} (k : TextCall s n c v f i old a len new) (z : a ≡ 0)
+    {slice after : List ℕ} {r : SessionEnd} (q : SessionCall (take len new) slice after r) where
   of_the_text : SessionCall (text_of (handed s n c v f i)) slice after r
   of_the_text = subst (λ (x : Text). SessionCall x slice after r) (answered_text k z) q
 
   -- With a slice long enough for the rows, and only then, the book that the session hands back is the same by names.
-  pub read_back : (length (rows_back (handed s n c v f i)) ≤ length slice) ↔ Same (state_in r) (handed s n c v f i)
+  pub read_back : (length (rows_back (handed s n c v f i)) ≤ length slice) ↔ Same (plain_state r.state) (handed s n c v f i)
   read_back = back_exactly (answered_named k z) of_the_text
 
   -- Each of its commands is then accepted: the listing has a row with 0 for each, and nothing else.
   pub all_accepted : length (rows_back (handed s n c v f i)) ≤ length slice
-      → (r.answer ≡ 0) × (take r.len after ≡ rows_back (handed s n c v f i))
+      → (code r.answer ≡ 0) × (take (found r.answer) after ≡ rows_back (handed s n c v f i))
   all_accepted h = all_listed (answered_named k z) of_the_text h
 
   -- With a shorter slice the session itself is refused.
   pub too_short : length slice < length (rows_back (handed s n c v f i))
-      → (r.answer ≡ 22) × (r.len ≡ 0) × (after ≡ replicate (length slice) 0) × (state_in r ≡ fresh)
+      → (code r.answer ≡ 22) × (found r.answer ≡ 0) × (after ≡ replicate (length slice) 0) × (plain_state r.state ≡ fresh)
   too_short h = short_refused (answered_named k z) of_the_text h
 
 -- A slice of 480 bytes is long enough for the rows of every book that `text_of` wrote.
-pub always_enough : {s n c v f i old : List ℕ} {w : called.Text} {new : List ℕ} → TextCall s n c v f i old w new → w.answer ≡ 0
+pub always_enough : {s n c v f i old : List ℕ} {a len : ℕ} {new : List ℕ} → TextCall s n c v f i old a len new → a ≡ 0
     → length (rows_back (handed s n c v f i)) ≤ 480
 always_enough k z = rows_short _ (answered_named k z)
 
 -- ---- equal texts
 
 -- what two calls of `text_of` wrote is equal exactly when their books are the same by names
-pub equal_texts : {s n c v f i old : List ℕ} {w : called.Text} {new : List ℕ} {s' n' c' v' f' i' old' : List ℕ} {w' : called.Text} {new' : List ℕ}
-    → TextCall s n c v f i old w new → w.answer ≡ 0 → TextCall s' n' c' v' f' i' old' w' new' → w'.answer ≡ 0
-    → (take w.len new ≡ take w'.len new') ↔ Same (handed s n c v f i) (handed s' n' c' v' f' i')
+pub equal_texts : {s n c v f i old : List ℕ} {a len : ℕ} {new : List ℕ} {s' n' c' v' f' i' old' : List ℕ} {a' len' : ℕ} {new' : List ℕ}
+    → TextCall s n c v f i old a len new → a ≡ 0 → TextCall s' n' c' v' f' i' old' a' len' new' → a' ≡ 0
+    → (take len new ≡ take len' new') ↔ Same (handed s n c v f i) (handed s' n' c' v' f' i')
 equal_texts = demand.equal_texts
 
 -- ---- every state that a session reaches
@@ -99,10 +100,10 @@ equal_texts = demand.equal_texts
 -- The text that `out` writes after any number of commands of any text, read by a session with a slice long enough for the rows, and only
 -- then, gives the same book by names.
 pub out_read_back : (n : ℕ) (t : Text) {slice after : List ℕ} {r : SessionEnd} → SessionCall (text_of (session_from n 1 fresh t).1) slice after r
-    → (length (rows_back (session_from n 1 fresh t).1) ≤ length slice) ↔ Same (state_in r) (session_from n 1 fresh t).1
+    → (length (rows_back (session_from n 1 fresh t).1) ≤ length slice) ↔ Same (plain_state r.state) (session_from n 1 fresh t).1
 out_read_back n t q = back_exactly (states_pass n t) q
 
 -- and so does the text of what a session hands back, read again
 pub handed_back_read_back : {t : Text} {old new : List ℕ} {r : SessionEnd} → SessionCall t old new r → {slice after : List ℕ} {r' : SessionEnd}
-    → SessionCall (text_of (state_in r)) slice after r' → (length (rows_back (state_in r)) ≤ length slice) ↔ Same (state_in r') (state_in r)
+    → SessionCall (text_of (plain_state r.state)) slice after r' → (length (rows_back (plain_state r.state)) ≤ length slice) ↔ Same (plain_state r'.state) (plain_state r.state)
 handed_back_read_back k q = back_exactly (hands_back_good k) q

@@ -15,7 +15,7 @@ use Rattle.parts.specs.Listed.{Found, Listed}
 abbrev pub Arrays : Type 0
 Arrays = List ℕ × List ℕ
 
--- the call q on a Book answers a and hands a Book back: the contract of each of the ten
+-- the call q on a Book answers a and leaves a Book: the contract of each of the ten
 abbrev pub Step : Arrays → Call → ℕ → Arrays → Type 0
 Step b q a b' = Called b.0 b.1 (command_of q) a b'.0 b'.1
 
@@ -35,7 +35,7 @@ pub record PartsGiven (s n : List ℕ) (c v : ℕ) (old : List ℕ) (a rows dept
   pub kept : a ≡ 22 → (out ≡ old) × (rows ≡ 0) × (depth ≡ 0)
 
 -- "For every sequence of calls of the ten commands, refused ones among them and whatever numbers they carry, this holds." The calls qs were
--- answered by the numbers ns, and the last of them handed back the Book s n.
+-- answered by the numbers ns, and the last of them left the Book s n.
 pub record Demand3 (qs : List Call) (ns : List ℕ) (s n : List ℕ) : Type 0 where
   -- "The answers are, one by one, those of document 01's plain book fed the same calls.
   pub the_answers : ns ≡ answers empty (map command_of qs)

@@ -1,16 +1,17 @@
 -- The call for the text of a Book with tables handed in: its answer, and the slice after it.
-use Rattle.std.specs.Prelude.{Bool, List, ◌≡◌, ℕ, length}
+use Rattle.std.specs.Prelude.{Bool, List, Result, ◌≡◌, ℕ, length}
 use Rattle.book.specs.declared.Book.{Book as Stored}
 use Rattle.book.specs.Plain.{plain_of}
 use Rattle.names.specs.Stored.{tables_of}
 use Rattle.names.specs.declared.Names.{Names}
 use Rattle.book_rules.specs.Test as test
+use Rattle.refusal.specs.Numbers.{code, found}
+use Rattle.refusal.specs.declared.Refusal.{Refusal}
 use Rattle.seqs.specs.Filled.{filled}
 use Rattle.sets.specs.Tests.{◌&◌, ◌=?◌, ◌≤?◌, if?◌then◌else◌}
 use Rattle.text.specs.Handed.{names_hold}
 use Rattle.text.specs.SameByNames.{text_of}
 use Rattle.text.specs.Session.{State}
-use Rattle.names_test.specs.declared.Text.{Text}
 
 -- the book and the tables that are handed in, by their six arrays
 unfoldable pub handed : List ℕ → List ℕ → List ℕ → List ℕ → List ℕ → List ℕ → State
@@ -38,12 +39,12 @@ module _ (s n c v f i : List ℕ) where
   unfoldable pub slice_with : List ℕ → List ℕ
   slice_with old = if? text_answer old =? 0 then filled (text_of (handed s n c v f i)) old else old
 
--- what the call gives back, and the slice then
-pub record TextCall (s n c v f i old : List ℕ) (r : Text) (new : List ℕ) : Type 0 where
-  pub answer : r.answer ≡ text_answer s n c v f i old
-  pub len : r.len ≡ text_len s n c v f i old
+-- The call answers a and has written len bytes; new is the slice then.
+pub record TextCall (s n c v f i old : List ℕ) (a len : ℕ) (new : List ℕ) : Type 0 where
+  pub answer : a ≡ text_answer s n c v f i old
+  pub length_is : len ≡ text_len s n c v f i old
   pub slice : new ≡ slice_with s n c v f i old
 
--- the same of the structs of the code
-abbrev pub IsTextCall : Stored → Names → List ℕ → Text → List ℕ → Type 0
-IsTextCall b n old r new = TextCall b.sets b.numbers n.comps n.vers n.facs n.impls old r new
+-- the same of the structs of the code, and of what it gives back
+abbrev pub IsTextCall : Stored → Names → List ℕ → Result ℕ Refusal → List ℕ → Type 0
+IsTextCall b n old r new = TextCall b.sets b.numbers n.comps n.vers n.facs n.impls old (code r) (found r) new

@@ -17,7 +17,6 @@ use Rattle.text_laws.specs.EqualTexts as texts
 use Rattle.text_laws.specs.Handed.{hold_names, names_hold_lem}
 use Rattle.model_laws.specs.Good.{passes→good}
 use Rattle.names_test.specs.Answered.{TextCall, handed, passes_named, slice_with, text_answer, text_len}
-use Rattle.names_test.specs.declared.Text.{Text}
 
 module _ (s n c v f i : List ℕ) where
   -- the test is the question for 25: of the Book's own numbers, of the book and of its tables
@@ -60,22 +59,22 @@ module _ (s n c v f i : List ℕ) where
 
 -- ---- a call that answered 0
 
-module _ {s n c v f i old : List ℕ} {r : Text} {new : List ℕ} (k : TextCall s n c v f i old r new) (z : r.answer ≡ 0) where
+module _ {s n c v f i old : List ℕ} {a len : ℕ} {new : List ℕ} (k : TextCall s n c v f i old a len new) (z : a ≡ 0) where
   pub answered_named : PassesNamed (handed s n c v f i)
   answered_named = ((answers_named s n c v f i old).0 (inl (sym k.answer ∙ z))).1
 
   -- it has written the book's text
-  pub answered_text : take r.len new ≡ text_of (handed s n c v f i)
+  pub answered_text : take len new ≡ text_of (handed s n c v f i)
   unfolding text_len slice_with filled
   answered_text =
       let t = =?-in _ 0 (sym k.answer ∙ z) in
-      ap₂ (λ (l : ℕ) (x : List ℕ). take l x) (k.len ∙ if-true _ _ _ t) (k.slice ∙ if-true _ _ _ t)
+      ap₂ (λ (l : ℕ) (x : List ℕ). take l x) (k.length_is ∙ if-true _ _ _ t) (k.slice ∙ if-true _ _ _ t)
       ∙ take-append_seam (text_of (handed s n c v f i)) _
 
 -- "two books have equal texts exactly when they are the same by names"
-pub equal_texts : {s n c v f i old : List ℕ} {r : Text} {new : List ℕ} {s' n' c' v' f' i' old' : List ℕ} {r' : Text} {new' : List ℕ}
-    → TextCall s n c v f i old r new → r.answer ≡ 0 → TextCall s' n' c' v' f' i' old' r' new' → r'.answer ≡ 0
-    → (take r.len new ≡ take r'.len new') ↔ Same (handed s n c v f i) (handed s' n' c' v' f' i')
+pub equal_texts : {s n c v f i old : List ℕ} {a len : ℕ} {new : List ℕ} {s' n' c' v' f' i' old' : List ℕ} {a' len' : ℕ} {new' : List ℕ}
+    → TextCall s n c v f i old a len new → a ≡ 0 → TextCall s' n' c' v' f' i' old' a' len' new' → a' ≡ 0
+    → (take len new ≡ take len' new') ↔ Same (handed s n c v f i) (handed s' n' c' v' f' i')
 equal_texts k z k' z' =
     let q = texts.equal_texts _ _ (answered_named k z) (answered_named k' z') in (
       λ e. q.0 (sym (answered_text k z) ∙ e ∙ answered_text k' z'),

@@ -177,12 +177,3 @@ pub fn names_hold(book: &Book, names: &Names) -> bool
     let impls_once = none_twice(&names.impls, 256);
     named & (comps_once & (vers_once & (facs_once & impls_once)))
 }
-
-// ---- what the call on them answers (crate book_text)
-
-// The answer, and how many bytes were written.
-#[derive(Clone, Copy)]
-pub struct Text {
-    pub answer: usize,
-    pub len: usize,
-}

@@ -3,9 +3,8 @@ use Rattle.std.specs.Prelude.{Bool, List, ◌≡◌, ◌-◌, ℕ}
 use Rattle.std.proofs.Math.Option.{Option}
 use Rattle.model.specs.Book.{Pair, Systems, components, member, versions}
 use Rattle.model.specs.Lists.{first_from}
-use Rattle.model.specs.Maps.{if_there, only_if, option_map, or_else}
+use Rattle.model.specs.Maps.{if_there, only_if}
 use Rattle.model.specs.PartsList.{first_pair}
-use Rattle.parts.specs.Listed.{row_number}
 use Rattle.parts.specs.Marks.{marked}
 use Rattle.sets.specs.Tests.{◌&◌, all, ~◌}
 
@@ -24,10 +23,6 @@ due_in Y m t d w = (marked m d w & ~ marked t d w) & members_in Y t d w
 -- the pair of d with the lowest version that passes the test
 unfoldable pub first_version : (ℕ → ℕ → Bool) → ℕ → Option Pair
 first_version test d = first_from versions 0 (λ w. only_if (test d w) (d, w))
-
--- the number of the row that was found; no row has the number 2048
-unfoldable pub number_of : Option Pair → ℕ
-number_of o = or_else (option_map row_number o) 2048
 
 -- A loop has come to the version i: none of d below it passes the test.
 unfoldable pub VersionFrom : (ℕ → ℕ → Bool) → ℕ → ℕ → Type 0

@@ -1,7 +1,7 @@
 -- Laws of the search for the next row: one for each way out and each turn.
-use Rattle.std.specs.Prelude.{Bool, false, not, true, List, ◌≡◌, get_or}
+use Rattle.std.specs.Prelude.{Bool, None, Option as Found, Some, false, not, true, List, ◌≡◌, get_or}
 use Rattle.std.proofs.Math.Logic.{inl, inr}
-use Rattle.std.proofs.Math.Option.{Option, none, some}
+use Rattle.std.proofs.Math.Option.{Option, none, some, some-injective}
 use Rattle.std.proofs.Common.{◌∙◌}
 use Rattle.std.proofs.Math.Path.{ap, fun_ext, refl, sym}
 use Prim.Native.Nat.{◌%◌, ◌*◌, ◌+◌, ◌-◌, ◌/◌, ◌<◌, ◌≤◌, suc, ℕ}
@@ -9,17 +9,18 @@ use native.Mathlib.Omega.{arith}
 use borrow.Author.Tests.{not-false, not-true}
 use Rattle.model.specs.Book.{Book, Pair, Systems, components, has_version, is_member, member, versions}
 use Rattle.model.specs.Lists.{first_from}
-use Rattle.model.specs.Maps.{else_try, if_there, only_if, option_map, or_else}
+use Rattle.model.specs.Maps.{else_try, if_there, only_if, option_map}
 use Rattle.model.specs.PartsList.{due, first_pair, listed, members_listed, next_row}
-use Rattle.parts.specs.Due.{PairFrom, VersionFrom, due_in, first_version, member_in, members_in, number_of}
+use Rattle.parts.specs.Due.{PairFrom, VersionFrom, due_in, first_version, member_in, members_in}
 use Rattle.parts.specs.Listed.{row_number}
 use Rattle.parts.specs.Marks.{PartsIn, marked}
+use Rattle.sets.specs.Answered.{answered}
 use Rattle.sets.specs.Sets.{Set, bit, minus, subset}
 use Rattle.sets.specs.TestLaws.{all_cong, all_out, and-false, and_in, and_l, and_r, and-true, clash, iff→≡, imp_out, not_out}
 use Rattle.sets.specs.Tests.{◌&◌, ~◌}
 use Rattle.model_laws.specs.Good.{Good}
 use Rattle.model_laws.specs.ListLaws.{first_from-some, only_some}
-use Rattle.model_laws.specs.MapLaws.{if_there_cong, is_some_no, option?}
+use Rattle.model_laws.specs.MapLaws.{if_there_cong, is_some_no, no_some, option?}
 use Rattle.model_laws.specs.Parts.{part_has_version}
 
 -- ---- the members of a pair
@@ -77,13 +78,32 @@ module _ {A : Type 0} (n : ℕ) (f : ℕ → Option A) where
 
 -- ---- the number of a row
 
-number-some : (o : Option Pair) (q : Pair) → o ≡ some q → number_of o ≡ q.0 * 64 + q.1
-unfolding number_of or_else option_map row_number
-number-some o q e = ap number_of e
+row_is : (o : Option Pair) (q : Pair) → o ≡ some q → some (row_number q) ≡ option_map row_number o
+unfolding option_map
+row_is o q e = sym (ap (option_map row_number) e)
 
-number-none : number_of none ≡ 2048
-unfolding number_of or_else option_map
-number-none = refl
+is_none : (o : Option Pair) → o ≡ none → none ≡ option_map row_number o
+unfolding option_map
+is_none o e = sym (ap (option_map row_number) e)
+
+no_row : (o : Option Pair) → none ≡ option_map row_number o → o ≡ none
+unfolding option_map
+no_row none e = refl
+no_row (some q) e = no_some e
+
+a_row : (o : Option Pair) (x : ℕ) → some x ≡ option_map row_number o → (q : Pair) × (o ≡ some q) × (x ≡ row_number q)
+unfolding option_map
+a_row none x e = no_some (sym e)
+a_row (some q) x e = (q, refl, some-injective _ _ e)
+
+module _ (g : Found ℕ) (o : Option ℕ) (e : answered g ≡ o) where
+  answered_none : g ≡ None → none ≡ o
+  unfolding answered
+  answered_none h = sym (ap answered h) ∙ e
+
+  answered_some : (x : ℕ) → g ≡ Some x → some x ≡ o
+  unfolding answered
+  answered_some x h = sym (ap answered h) ∙ e
 
 -- ---- the first version of d that is due
 
@@ -97,20 +117,20 @@ module _ (test : ℕ → ℕ → Bool) (d : ℕ) where
     unfolding VersionFrom first_version only_if
     version_turn f = first_turn 64 _ i l a (ap (λ (t : Bool). only_if t (d, i)) (sym e ∙ f))
 
-    pub version_stop : b ≡ true → d * 64 + i ≡ number_of (first_version test d)
-    unfolding VersionFrom first_version only_if number_of or_else option_map row_number
-    version_stop y = sym (ap number_of (first_stop 64 (λ w. only_if (test d w) (d, w)) i (d, i) l a (ap (λ (t : Bool). only_if t (d, i)) (sym e ∙ y))))
+    pub version_stop : b ≡ true → some (d * 64 + i) ≡ option_map row_number (first_version test d)
+    unfolding VersionFrom first_version only_if row_number
+    version_stop y = row_is _ _ (first_stop 64 (λ w. only_if (test d w) (d, w)) i (d, i) l a (ap (λ (t : Bool). only_if t (d, i)) (sym e ∙ y)))
 
-  pub version_end : (i : ℕ) → 64 ≤ i → VersionFrom test d i → 2048 ≡ number_of (first_version test d)
-  unfolding VersionFrom first_version number_of or_else option_map
-  version_end i h a = sym (ap number_of (first_end 64 (λ w. only_if (test d w) (d, w)) i h a))
+  pub version_end : (i : ℕ) → 64 ≤ i → VersionFrom test d i → none ≡ option_map row_number (first_version test d)
+  unfolding VersionFrom first_version
+  version_end i h a = is_none _ (first_end 64 (λ w. only_if (test d w) (d, w)) i h a)
 
 -- the parts among the versions of d are all listed
 pub none_open : (Y : Systems) (m t : List ℕ) (d : ℕ) {b : Bool} → b ≡ subset 64 (bit (get_or m d 0)) (bit (get_or t d 0)) → b ≡ true
-    → 2048 ≡ number_of (first_version (due_in Y m t) d)
+    → none ≡ option_map row_number (first_version (due_in Y m t) d)
 unfolding first_version due_in marked subset
 none_open Y m t d e y = elim (option? (first_version (due_in Y m t) d)) [
-  | inl n ↦ sym (ap number_of n ∙ number-none)
+  | inl n ↦ is_none _ n
   | inr q ↦ (let i = first_from-some versions 0 _ q.0 q.1 in let o = and_l _ _ (only_some _ _ q.0 i.2).0 in
       clash (imp_out _ _ (all_out 64 _ (sym e ∙ y) i.0 (omega (arith, i.1))) (and_l _ _ o)) (not_out _ (and_r _ _ o)))
 ]
@@ -130,24 +150,21 @@ module _ (test : ℕ → ℕ → Bool) where
       let z = only_some (test d i.0) (d, i.0) q i.2 in
       (sym (ap (λ (x : Pair). x.0) z.1), omega (arith, i.1, ap (λ (x : Pair). x.1) z.1))
 
-  module _ (i x : ℕ) (l : i < 32) (a : PairFrom test i) (e : x ≡ number_of (first_version test i)) where
-    pub pair_turn : 2048 ≤ x → PairFrom test (i + 1)
+  -- g is the row that was found of the component i
+  module _ (i : ℕ) (l : i < 32) (a : PairFrom test i) (g : Found ℕ) (e : answered g ≡ option_map row_number (first_version test i)) where
+    pub pair_turn : g ≡ None → PairFrom test (i + 1)
     unfolding PairFrom first_pair first_version
-    pair_turn h = first_turn 32 (first_version test) i l a (elim (option? (first_version test i)) [
-      | inl n ↦ n
-      | inr q ↦ (let z = version_some i q.0 q.1 in absurd (omega (arith, h, e, number-some _ q.0 q.1, z.0, z.1)))
-    ])
+    pair_turn h = first_turn 32 (first_version test) i l a (no_row _ (answered_none g _ e h))
 
-    pub pair_stop : x < 2048 → x ≡ number_of (first_pair test)
+    pub pair_stop : (x : ℕ) → g ≡ Some x → some x ≡ option_map row_number (first_pair test)
     unfolding PairFrom first_pair first_version
-    pair_stop h = e ∙ elim (option? (first_version test i)) [
-      | inl n ↦ absurd (omega (arith, h, e, ap number_of n, number-none))
-      | inr q ↦ ap number_of (q.1 ∙ sym (first_stop 32 (first_version test) i q.0 l a q.1))
-    ]
+    pair_stop x h =
+        let k = answered_some g _ e x h in let q = a_row (first_version test i) x k in
+        k ∙ ap (option_map row_number) (q.1 ∙ sym (first_stop 32 (first_version test) i q.0 l a q.1))
 
-  pub pair_end : (i : ℕ) → 32 ≤ i → PairFrom test i → 2048 ≡ number_of (first_pair test)
+  pub pair_end : (i : ℕ) → 32 ≤ i → PairFrom test i → none ≡ option_map row_number (first_pair test)
   unfolding PairFrom first_pair first_version
-  pair_end i h a = sym (ap number_of (first_end 32 (first_version test) i h a) ∙ number-none)
+  pair_end i h a = is_none _ (first_end 32 (first_version test) i h a)
 
   -- ---- the row that was found
 
@@ -158,20 +175,21 @@ module _ (test : ℕ → ℕ → Bool) where
       let z = version_some o.0 q (unfold first_version in o.2) in
       (omega (arith, z.0, o.1), z.1)
 
-  pub row_some : (x : ℕ) → x ≡ number_of (first_pair test) → x < 2048
-      → (q : Pair) × (first_pair test ≡ some q) × (x ≡ row_number q) × (x / 64 ≡ q.0) × (x % 64 ≡ q.1) × (q.0 < 32) × (q.1 < 64)
-  unfolding row_number
-  row_some x e h = elim (option? (first_pair test)) [
-    | inl n ↦ absurd (omega (arith, h, e, ap number_of n, number-none))
-    | inr q ↦ (let z = pair_some q.0 q.1 in let k : x ≡ q.0.0 * 64 + q.0.1 = e ∙ number-some _ q.0 q.1 in
-        (q.0, q.1, k, omega (arith, k, z.0, z.1), omega (arith, k, z.0, z.1), z.0, z.1))
-  ]
+  module _ (g : Found ℕ) (e : answered g ≡ option_map row_number (first_pair test)) where
+    pub row_some : (x : ℕ) → g ≡ Some x
+        → (q : Pair) × (first_pair test ≡ some q) × (x ≡ row_number q) × (x / 64 ≡ q.0) × (x % 64 ≡ q.1) × (q.0 < 32) × (q.1 < 64)
+    unfolding row_number
+    row_some x h =
+        let q = a_row (first_pair test) x (answered_some g _ e x h) in
+        let z = pair_some q.0 q.1 in
+        let k : x ≡ q.0.0 * 64 + q.0.1 = q.2 in
+        (q.0, q.1, k, omega (arith, k, z.0, z.1), omega (arith, k, z.0, z.1), z.0, z.1)
 
-  pub row_none : (x : ℕ) → x ≡ number_of (first_pair test) → 2048 ≤ x → first_pair test ≡ none
-  row_none x e h = elim (option? (first_pair test)) [
-    | inl n ↦ n
-    | inr q ↦ (let z = pair_some q.0 q.1 in absurd (omega (arith, h, e, number-some _ q.0 q.1, z.0, z.1)))
-  ]
+    pub row_low : (x : ℕ) → g ≡ Some x → x < 2048
+    row_low x h = let q = row_some x h in omega (arith, q.3, q.5)
+
+    pub row_none : g ≡ None → first_pair test ≡ none
+    row_none h = no_row _ (answered_none g _ e h)
 
 -- ---- what the tables say of the plain book
 

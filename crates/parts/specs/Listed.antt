@@ -1,11 +1,13 @@
 -- The contract of the parts list, over `model`'s definitions. A Book stands as its two arrays.
-use Rattle.std.specs.Prelude.{List, [], ◌++◌, ◌∷◌, map, ◌≡◌, ◌*◌, ◌+◌, ◌≤◌, ℕ, length}
+use Rattle.std.specs.Prelude.{Err, List, Ok, Result, [], ◌++◌, ◌∷◌, map, ◌≡◌, ◌*◌, ◌+◌, ◌≤◌, ℕ, length}
 use Rattle.book.specs.Plain.{plain_of}
 use Rattle.model.specs.Book.{Book, Pair}
 use Rattle.model.specs.PartsList.{how_many_systems, longest_chain, parts}
 use Rattle.model.specs.Queries.{PARTS, asked}
 use Rattle.model.specs.Questions.{Question, first_no}
 use Rattle.book_rules.specs.Test.{passes}
+use Rattle.parts.specs.declared.PartsList.{PartsList}
+use Rattle.refusal.specs.declared.Refusal.{Refusal}
 use Rattle.seqs.specs.Filled.{filled}
 use Rattle.sets.specs.Tests.{◌≤?◌, if?◌then◌else◌}
 
@@ -29,14 +31,17 @@ pub record Found (b : Book) (c v : ℕ) (old : List ℕ) (rows depth : ℕ) (out
   pub at_least : longest_chain b.systems c v ≤ depth
   pub at_most : depth ≤ how_many_systems b.systems + 1
 
--- what it hands back where the answer is n, another than 0
-pub record Refused (n a rows depth : ℕ) : Type 0 where
-  pub answer_is : a ≡ n
-  pub no_rows : rows ≡ 0
-  pub no_depth : depth ≡ 0
-
 -- The call for the parts of c, v on the Book s n and the slice old answers a, and leaves out in the slice.
 pub record Listed (s n : List ℕ) (c v : ℕ) (old : List ℕ) (a rows depth : ℕ) (out : List ℕ) : Type 0 where
   pub answer_is : a ≡ parts_answer s n c v (length old)
   pub refused : (a ≡ 0 → ⊥) → (out ≡ old) × (rows ≡ 0) × (depth ≡ 0)
   pub found : a ≡ 0 → Found (plain_of s n) c v old rows depth out
+
+-- how many rows the call hands back, and the depth: 0 where it is refused
+abbrev pub rows_found : Result PartsList Refusal → ℕ
+rows_found (Ok l) = l.rows
+rows_found (Err e) = 0
+
+abbrev pub depth_found : Result PartsList Refusal → ℕ
+depth_found (Ok l) = l.depth
+depth_found (Err e) = 0

@@ -1,12 +1,13 @@
 -- Laws of the loop that finds the rows.
-use Rattle.std.specs.Prelude.{Bool, true, List, [], ◌++◌, ◌∷◌, map, ◌≡◌, refl, ◌%◌, ◌+◌, ◌-◌, ◌/◌, ◌<◌, ◌≤◌, suc, ℕ, get_or, length, replicate, set, take}
+use Rattle.std.specs.Prelude.{Bool, None, Option as Found, Some, true, List, [], ◌++◌, ◌∷◌, map, ◌≡◌, refl, ◌%◌, ◌+◌, ◌-◌, ◌/◌, ◌<◌, ◌≤◌, suc, ℕ, get_or, length, replicate, set, take}
 use Rattle.std.proofs.Common.{append_assoc, append-nil, ◌∙◌, ap₂, subst, arith, length-append, length-set}
 use Rattle.std.proofs.lemmas.List.{map-append, length-map, length-replicate}
 use Rattle.std.proofs.Math.Path.{ap, sym}
 use Rattle.std.proofs.Math.Seq.{take_at}
 use Rattle.model.specs.Book.{Book, Pair, has_version}
+use Rattle.model.specs.Maps.{option_map}
 use Rattle.model.specs.PartsList.{first_pair, listed, next_row, parts, rows_from}
-use Rattle.parts.specs.Due.{due_in, number_of}
+use Rattle.parts.specs.Due.{due_in}
 use Rattle.parts.specs.DueLaws.{next_same, row_none, row_some}
 use Rattle.parts.specs.Listed.{row_number}
 use Rattle.parts.specs.MarkLaws.{mark_one, no_marks}
@@ -14,6 +15,7 @@ use Rattle.parts.specs.Marks.{PartsIn, marked}
 use Rattle.parts.specs.Rows.{AllRows, RowsTo}
 use Rattle.seqs.specs.Filled.{filled}
 use Rattle.seqs.specs.FilledLaws.{filled-length, filled_none, filled-set}
+use Rattle.sets.specs.Answered.{answered}
 use Rattle.sets.specs.Sets.{bit, with}
 use Rattle.sets.specs.Tests.{◌&◌, ◌=?◌, ◌or◌}
 use Rattle.model_laws.specs.Good.{Good}
@@ -52,20 +54,21 @@ rows_full b c v k t a z h h' =
     (ended b c v k t a z h (ap (λ (n : ℕ). rows_from n b c v z.back) e ∙ rows_from_zero b c v z.back))
 
 module _ (b : Book) (g : Good b) (c v : ℕ) (has_it : has_version b.specs c v ≡ true) (m : List ℕ) (pm : PartsIn b.systems c v m)
-    (k x : ℕ) (t a : List ℕ) (z : RowsTo b c v k t a) (l : k < 256) (e : x ≡ number_of (first_pair (due_in b.systems m t))) where
+    (k : ℕ) (t a : List ℕ) (z : RowsTo b c v k t a) (l : k < 256) (found : Found ℕ)
+    (e : answered found ≡ option_map row_number (first_pair (due_in b.systems m t))) where
   next_is : next_row b c v z.back ≡ first_pair (due_in b.systems m t)
   next_is = next_same b g c v has_it m t z.back pm z.table
 
   one_more_lem : 256 - k ≡ suc (256 - (k + 1))
   one_more_lem = omega arith
 
-  pub rows_end : 2048 ≤ x → AllRows b c v k a
+  pub rows_end : found ≡ None → AllRows b c v k a
   rows_end h = ended b c v k t a z (omega (arith, l)) (ap (λ (n : ℕ). rows_from n b c v z.back) one_more_lem
-      ∙ rows_from_end (256 - (k + 1)) b c v z.back (next_is ∙ row_none _ x e h))
+      ∙ rows_from_end (256 - (k + 1)) b c v z.back (next_is ∙ row_none _ found e h))
 
-  pub rows_turn : (y : ℕ) → x < 2048 → bit y ≡ with (bit (get_or t (x / 64) 0)) (x % 64) → RowsTo b c v (k + 1) (set t (x / 64) y) (set a k x)
-  rows_turn y h ey =
-      let s = row_some (due_in b.systems m t) x e h in
+  pub rows_turn : (x y : ℕ) → found ≡ Some x → bit y ≡ with (bit (get_or t (x / 64) 0)) (x % 64) → RowsTo b c v (k + 1) (set t (x / 64) y) (set a k x)
+  rows_turn x y h ey =
+      let s = row_some (due_in b.systems m t) found e x h in
       let q = s.0 in
       let d< : x / 64 < 32 = subst (λ (i : ℕ). i < 32) (sym s.3) s.5 in
       record {

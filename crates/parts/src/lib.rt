@@ -2,19 +2,26 @@
 #![tactic(auto)]
 
 ghost use Rattle.std.specs.Prelude.{◌≡◌, true, ◌+◌, ◌≤◌, ◌<◌, take, length};
+ghost use Rattle.model.specs.Maps.{option_map};
 ghost use Rattle.model.specs.PartsList.{how_many_systems, first_pair};
+ghost use Rattle.model.specs.Queries.{PARTS, asked};
+ghost use Rattle.model.specs.Questions.{first_no};
 ghost use Rattle.seqs.specs.Filled.{filled};
 ghost use Rattle.book.specs.Plain.{plain};
-ghost use Rattle.parts.specs.Listed.{Listed, Refused};
+ghost use Rattle.parts.specs.Listed.{Listed, depth_found, row_number, rows_found};
+ghost use Rattle.sets.specs.Answered.{answered};
 ghost use Rattle.sets.specs.Sets.{bit};
 ghost use Rattle.model.specs.Book.{has_version, is_member};
 ghost use Rattle.model_laws.specs.Good.{Good};
 ghost use Rattle.parts.specs.Marks.{Closed, Marked, PartsIn};
-ghost use Rattle.parts.specs.Due.{member_in, members_in, due_in, first_version, number_of};
+ghost use Rattle.parts.specs.Due.{member_in, members_in, due_in, first_version};
 ghost use Rattle.parts.specs.Rows.{AllRows};
 ghost use Rattle.book_rules.specs.Test as test;
+ghost use Rattle.refusal.specs.Numbers.{code};
 
 use book::Book;
+use book_test::tested;
+use refusal::Refusal;
 
 // The rows of a list, and how many they are.
 #[derive(Drop)]
@@ -109,35 +116,35 @@ fn is_due(book: &Book, d: usize, w: usize, parts: &[u64; 32], listed: &[u64; 32]
     members_listed(book, d, w, listed)
 }
 
-// The row of the lowest version of d that is due, or 2048.
-fn next_version(book: &Book, d: usize, parts: &[u64; 32], listed: &[u64; 32]) -> usize
+// The row of the lowest version of d that is due.
+fn next_version(book: &Book, d: usize, parts: &[u64; 32], listed: &[u64; 32]) -> Option<usize>
     requires d_bound { d < 32 }
     requires good { Good (plain book.now) }
-    ensures { result ≡ number_of (first_version (due_in (plain book.now).systems parts.now listed.now) d) }
+    ensures { answered result
+        ≡ option_map row_number (first_version (due_in (plain book.now).systems parts.now listed.now) d) }
 {
     if sets::subset(parts[d], listed[d]) {
-        return 2048;
+        return None;
     }
     for w in 0..64 {
         if is_due(book, d, w, parts, listed) {
-            return d * 64 + w;
+            return Some(d * 64 + w);
         }
     }
-    2048
+    None
 }
 
-// The row of the pair that is due with the lowest component, then the lowest version, or 2048.
-fn next_row(book: &Book, parts: &[u64; 32], listed: &[u64; 32]) -> usize
+// The row of the pair that is due with the lowest component, then the lowest version.
+fn next_row(book: &Book, parts: &[u64; 32], listed: &[u64; 32]) -> Option<usize>
     requires { Good (plain book.now) }
-    ensures { result ≡ number_of (first_pair (due_in (plain book.now).systems parts.now listed.now)) }
+    ensures { answered result ≡ option_map row_number (first_pair (due_in (plain book.now).systems parts.now listed.now)) }
 {
     for d in 0..32 {
-        let row = next_version(book, d, parts, listed);
-        if row < 2048 {
-            return row;
+        if let Some(row) = next_version(book, d, parts, listed) {
+            return Some(row);
         }
     }
-    2048
+    None
 }
 
 // The rows of the parts list of version v of c.
@@ -151,20 +158,18 @@ fn rows_of(book: &Book, c: usize, v: usize) -> Rows
     let mut listed: [u64; 32] = [0; 32];
     let mut row: [u16; 256] = [0; 256];
     for k in 0..256 {
-        let x = next_row(book, &parts, &listed);
-        if 2048 <= x {
+        let Some(x) = next_row(book, &parts, &listed) else {
             return Rows { row, count: k };
-        }
+        };
         listed[x / 64] = sets::with(listed[x / 64], x % 64);
         row[k] = x as u16;
     }
     Rows { row, count: 256 }
 }
 
-// What the call gives back: its answer, 0 where the list is in the slice, how many rows it has, and a depth.
+// What the call gives back where the list is in the slice: how many rows it has, and a depth.
 #[derive(Clone, Copy)]
 pub struct PartsList {
-    pub answer: u8,
     pub rows: usize,
     pub depth: usize,
 }
@@ -192,51 +197,46 @@ fn most_depth(book: &Book) -> usize
 
 // ---- the call
 
-fn refused(answer: u8) -> PartsList
-    ensures { Refused answer result.answer result.rows result.depth }
+// The questions 1, 4 and 10.
+fn asked_of_version(book: &Book, c: usize, v: usize) -> Result<(), Refusal>
+    ensures { code result ≡ first_no (asked (plain book.now) (PARTS c v)) }
 {
-    PartsList {
-        answer,
-        rows: 0,
-        depth: 0,
+    if 32 <= c {
+        return Err(Refusal::TooLarge);
     }
+    if 64 <= v {
+        return Err(Refusal::TooLarge);
+    }
+    if !book.is_specified(c) {
+        return Err(Refusal::NotSpecified);
+    }
+    if !book.has_version(c, v) {
+        return Err(Refusal::NoVersion);
+    }
+    Ok(())
 }
 
 // The parts list of version v of c, on a Book that passes the test for 25.
-pub fn parts_in(book: &Book, c: usize, v: usize, out: &mut [u16]) -> PartsList
+pub fn parts_in(book: &Book, c: usize, v: usize, out: &mut [u16]) -> Result<PartsList, Refusal>
     requires { test.passes book.now.sets book.now.numbers ≡ true }
-    ensures { Listed book.now.sets book.now.numbers c v out.old result.answer result.rows result.depth out.new }
+    ensures { Listed book.now.sets book.now.numbers c v out.old (code result) (rows_found result) (depth_found result) out.new }
 {
-    if 32 <= c {
-        return refused(1);
-    }
-    if 64 <= v {
-        return refused(1);
-    }
-    if !book.is_specified(c) {
-        return refused(4);
-    }
-    if !book.has_version(c, v) {
-        return refused(10);
-    }
+    asked_of_version(book, c, v)?;
     let found = rows_of(book, c, v);
     if out.len() < found.count {
-        return refused(22);
+        return Err(Refusal::DoesNotFit);
     }
     write_rows(out, &found.row, found.count);
-    PartsList {
-        answer: 0,
+    Ok(PartsList {
         rows: found.count,
         depth: most_depth(book),
-    }
+    })
 }
 
 // The parts list of version v of c, on any Book.
-pub fn parts(b: Book, c: usize, v: usize, out: &mut [u16]) -> PartsList
-    ensures { Listed b.sets b.numbers c v out.old result.answer result.rows result.depth out.new }
+pub fn parts(book: &Book, c: usize, v: usize, out: &mut [u16]) -> Result<PartsList, Refusal>
+    ensures { Listed book.now.sets book.now.numbers c v out.old (code result) (rows_found result) (depth_found result) out.new }
 {
-    if !book_test::passes(&b) {
-        return refused(25);
-    }
-    parts_in(&b, c, v, out)
+    tested(book)?;
+    parts_in(book, c, v, out)
 }

@@ -6,83 +6,65 @@ ghost use Rattle.std.specs.Prelude.{length};
 ghost use Rattle.model.specs.Queries.{SUPPLIES, NEEDS, CHOICE, STANDARD, UNDEFINED, UNUSED, WHEREUSED, the_version};
 ghost use Rattle.query_replies.specs.Replied.{Replied, replied_to, numbers_in, facilities_in, components_in};
 ghost use Rattle.query_replies.specs.Listed.{Listed, fitted};
+ghost use Rattle.refusal.specs.Numbers.{code, found};
 
 use book::Book;
-use query_replies::{Components, Facilities, Pairs, Version};
+use book_test::tested;
+use refusal::Refusal;
 
-// SUPPLIES, on any Book.
-pub fn supplies(b: Book, c: usize) -> Facilities
-    ensures { Replied facilities_in result.answer result.set (replied_to b.sets b.numbers (SUPPLIES c)) }
+// SUPPLIES, on any Book: a set of facilities.
+pub fn supplies(book: &Book, c: usize) -> Result<u64, Refusal>
+    ensures { Replied facilities_in (code result) (found result) (replied_to book.now.sets book.now.numbers (SUPPLIES c)) }
 {
-    if !book_test::passes(&b) {
-        return Facilities { answer: 25, set: 0 };
-    }
-    query_replies::supplies_in(&b, c)
+    tested(book)?;
+    query_replies::supplies_in(book, c)
 }
 
-// NEEDS, on any Book.
-pub fn needs(b: Book, c: usize, v: usize) -> Facilities
-    ensures { Replied facilities_in result.answer result.set (replied_to b.sets b.numbers (NEEDS c v)) }
+// NEEDS, on any Book: a set of facilities.
+pub fn needs(book: &Book, c: usize, v: usize) -> Result<u64, Refusal>
+    ensures { Replied facilities_in (code result) (found result) (replied_to book.now.sets book.now.numbers (NEEDS c v)) }
 {
-    if !book_test::passes(&b) {
-        return Facilities { answer: 25, set: 0 };
-    }
-    query_replies::needs_in(&b, c, v)
+    tested(book)?;
+    query_replies::needs_in(book, c, v)
 }
 
-// STANDARD, on any Book.
-pub fn standard(b: Book, c: usize) -> Version
-    ensures { Replied the_version result.answer result.version (replied_to b.sets b.numbers (STANDARD c)) }
+// STANDARD, on any Book: a version.
+pub fn standard(book: &Book, c: usize) -> Result<usize, Refusal>
+    ensures { Replied the_version (code result) (found result) (replied_to book.now.sets book.now.numbers (STANDARD c)) }
 {
-    if !book_test::passes(&b) {
-        return Version {
-            answer: 25,
-            version: 0,
-        };
-    }
-    query_replies::standard_in(&b, c)
+    tested(book)?;
+    query_replies::standard_in(book, c)
 }
 
-// UNDEFINED, on any Book.
-pub fn undefined(b: Book) -> Components
-    ensures { Replied components_in result.answer result.set (replied_to b.sets b.numbers UNDEFINED) }
+// UNDEFINED, on any Book: a set of components.
+pub fn undefined(book: &Book) -> Result<u64, Refusal>
+    ensures { Replied components_in (code result) (found result) (replied_to book.now.sets book.now.numbers UNDEFINED) }
 {
-    if !book_test::passes(&b) {
-        return Components { answer: 25, set: 0 };
-    }
-    query_sets::undefined_in(&b)
+    tested(book)?;
+    Ok(query_sets::undefined_in(book))
 }
 
-// UNUSED, on any Book.
-pub fn unused(b: Book) -> Components
-    ensures { Replied components_in result.answer result.set (replied_to b.sets b.numbers UNUSED) }
+// UNUSED, on any Book: a set of components.
+pub fn unused(book: &Book) -> Result<u64, Refusal>
+    ensures { Replied components_in (code result) (found result) (replied_to book.now.sets book.now.numbers UNUSED) }
 {
-    if !book_test::passes(&b) {
-        return Components { answer: 25, set: 0 };
-    }
-    query_sets::unused_in(&b)
+    tested(book)?;
+    Ok(query_sets::unused_in(book))
 }
 
-// WHEREUSED, on any Book.
-pub fn whereused(b: Book, c: usize) -> Components
-    ensures { Replied components_in result.answer result.set (replied_to b.sets b.numbers (WHEREUSED c)) }
+// WHEREUSED, on any Book: a set of components.
+pub fn whereused(book: &Book, c: usize) -> Result<u64, Refusal>
+    ensures { Replied components_in (code result) (found result) (replied_to book.now.sets book.now.numbers (WHEREUSED c)) }
 {
-    if !book_test::passes(&b) {
-        return Components { answer: 25, set: 0 };
-    }
-    query_sets::whereused_in(&b, c)
+    tested(book)?;
+    query_sets::whereused_in(book, c)
 }
 
-// CHOICE, on any Book, of a set of facilities. A row is component × 64 + version.
-pub fn choice(b: Book, wanted: u64, out: &mut [u16]) -> Pairs
-    ensures { Listed out.old result.answer result.rows out.new
-        (fitted (length out.old) (replied_to b.sets b.numbers (CHOICE (numbers_in wanted)))) }
+// CHOICE, on any Book, of a set of facilities: how many rows were written. A row is component × 64 + version.
+pub fn choice(book: &Book, wanted: u64, out: &mut [u16]) -> Result<usize, Refusal>
+    ensures { Listed out.old (code result) (found result) out.new
+        (fitted (length out.old) (replied_to book.now.sets book.now.numbers (CHOICE (numbers_in wanted)))) }
 {
-    if !book_test::passes(&b) {
-        return Pairs {
-            answer: 25,
-            rows: 0,
-        };
-    }
-    query_choice::choice_in(&b, wanted, out)
+    tested(book)?;
+    query_choice::choice_in(book, wanted, out)
 }

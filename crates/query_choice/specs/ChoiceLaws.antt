@@ -7,7 +7,7 @@ use Rattle.std.proofs.lemmas.Bool.{not-true}
 use Rattle.book.specs.Plain.{plain_of, specs_of}
 use Rattle.model_laws.specs.FirstNoLaws.{yes_at}
 use Rattle.model.specs.Book.{Book, Pair, Specs, facilities, has_version, provides}
-use Rattle.model.specs.Queries.{CHOICE, asked, choice, found, rising_pairs, the_pairs}
+use Rattle.model.specs.Queries.{CHOICE, asked, choice, found, refused, rising_pairs, the_pairs}
 use Rattle.model.specs.Questions.{first_no}
 use Rattle.model.specs.Lists.{rising}
 use Rattle.query_replies.specs.Found.{Chosen, chosen_at, flat, row_in}
@@ -20,8 +20,8 @@ use Rattle.book_rules.specs.Test.{passes}
 use Rattle.seqs.specs.Filled.{filled}
 use Rattle.sets.specs.SetLaws.{bit_zero}
 use Rattle.sets.specs.Sets.{Set, bit, subset}
-use Rattle.sets.specs.TestLaws.{and-false, and_swap, and-true, same?}
-use Rattle.sets.specs.Tests.{◌&◌, count}
+use Rattle.sets.specs.TestLaws.{and-false, and_swap, and-true, bool?, if-false, if-true, same?}
+use Rattle.sets.specs.Tests.{◌&◌, count, if?◌then◌else◌}
 use Rattle.model_laws.specs.RisingLaws.{rising_below, rising_cong, rising-length, rising-set}
 
 module _ (S : Specs) (w c p : ℕ) {t : Bool} (ep : bit p ≡ provides S c) (et : t ≡ subset 64 (bit w) (bit p)) where
@@ -69,8 +69,13 @@ choice_is b w h = ap (λ (a : Set). rising_pairs (λ c v. has_version b.specs c 
 -- ---- as the reply
 
 module _ (s n old : List ℕ) (w : ℕ) where
-  pub choice_25 : {r : Bool} → r ≡ passes s n → not r ≡ true → Listed old 25 0 old (fitted (length old) (replied_to s n (CHOICE (numbers_in w))))
-  choice_25 {r} e t = list_refused old 25 (to_25 s n _ (sym e ∙ not-true r t))
+  -- a Book that does not pass the test for 25
+  pub choice_untested : (a x : ℕ) → a ≡ (if? passes s n then 0 else 25) → (a ≡ 0 → ⊥) → x ≡ 0
+      → Listed old a x old (fitted (length old) (replied_to s n (CHOICE (numbers_in w))))
+  choice_untested a x e ne z = elim (bool? (passes s n)) [
+    | inl t ↦ absurd (ne (e ∙ if-true _ _ _ t))
+    | inr f ↦ rw z (list_refused old a (to_25 s n _ f ∙ ap refused (sym (e ∙ if-false _ _ _ f))))
+  ]
 
   module _ (good : passes s n ≡ true) (w< : w < 2 ^ 64) (t : List ℕ) (k : Chosen (specs_of s n) (bit w) 32 t) (m : ℕ) (em : m ≡ count 2048 (row_in t)) where
     pairs : List Pair

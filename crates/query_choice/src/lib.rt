@@ -12,9 +12,10 @@ ghost use Rattle.model.specs.Queries.{CHOICE};
 ghost use Rattle.query_replies.specs.Replied.{replied_to, numbers_in};
 ghost use Rattle.query_replies.specs.Listed.{Listed, fitted, row_of};
 ghost use Rattle.query_replies.specs.Found.{chosen_at, Chosen, row_in};
+ghost use Rattle.refusal.specs.Numbers.{code, found};
 
 use book::Book;
-use query_replies::Pairs;
+use refusal::Refusal;
 
 // The versions of c that are chosen: all where c provides the facilities wanted, else none.
 fn chosen_versions(book: &Book, c: usize, wanted: u64) -> u64
@@ -88,20 +89,17 @@ fn write_rows(chosen: &[u64; 32], out: &mut [u16])
     }
 }
 
-// CHOICE, of a set of facilities.
-pub fn choice_in(book: &Book, wanted: u64, out: &mut [u16]) -> Pairs
+// CHOICE, of a set of facilities: how many rows were written.
+pub fn choice_in(book: &Book, wanted: u64, out: &mut [u16]) -> Result<usize, Refusal>
     requires { test.passes book.now.sets book.now.numbers ≡ true }
-    ensures { Listed out.old result.answer result.rows out.new
+    ensures { Listed out.old (code result) (found result) out.new
         (fitted (length out.old) (replied_to book.now.sets book.now.numbers (CHOICE (numbers_in wanted)))) }
 {
     let chosen = chosen_rows(book, wanted);
     let rows = count_rows(&chosen);
     if out.len() < rows {
-        return Pairs {
-            answer: 22,
-            rows: 0,
-        };
+        return Err(Refusal::DoesNotFit);
     }
     write_rows(&chosen, out);
-    Pairs { answer: 0, rows }
+    Ok(rows)
 }

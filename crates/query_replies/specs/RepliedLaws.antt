@@ -12,7 +12,7 @@ use Rattle.model.specs.Questions.{first_no}
 use Rattle.query_replies.specs.Replied.{Replied, of_component, of_pair, replied_to}
 use Rattle.book_rules.specs.Test.{passes}
 use Rattle.sets.specs.TestLaws.{<?_in, <?_no, <?_out, =?-not, =?-same, and-false, and_swap, and-true, bool?, if-false, if-true}
-use Rattle.sets.specs.Tests.{◌&◌, ◌<?◌, ◌=?◌}
+use Rattle.sets.specs.Tests.{◌&◌, ◌<?◌, ◌=?◌, if?◌then◌else◌}
 
 -- ---- the reply from the number of the first no
 
@@ -49,8 +49,12 @@ module _ (s n : List ℕ) (q : Query) where
   to_25 bad = if-false _ _ _ bad
 
 module _ (read : ℕ → Reply) (s n : List ℕ) (q : Query) where
-  pub refuse_25 : {r : Bool} → r ≡ passes s n → not r ≡ true → Replied read 25 0 (replied_to s n q)
-  refuse_25 {r} e t = refuses read _ 25 (λ z. omega (arith, z)) (sym (to_25 s n q (sym e ∙ not-true r t)))
+  -- a Book that does not pass the test for 25
+  pub untested : (a : ℕ) → a ≡ (if? passes s n then 0 else 25) → (a ≡ 0 → ⊥) → Replied read a 0 (replied_to s n q)
+  untested a e ne = elim (bool? (passes s n)) [
+    | inl t ↦ absurd (ne (e ∙ if-true _ _ _ t))
+    | inr f ↦ refuses read _ a ne (ap refused (e ∙ if-false _ _ _ f) ∙ sym (to_25 s n q f))
+  ]
 
   module _ (good : passes s n ≡ true) where
     pub refuse : (a : ℕ) → a ≡ first_no (asked (plain_of s n) q) → (a ≡ 0 → ⊥) → Replied read a 0 (replied_to s n q)

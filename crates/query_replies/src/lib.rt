@@ -8,111 +8,67 @@ ghost use Rattle.book_rules.specs.Test as test;
 ghost use Rattle.model.specs.Questions.{first_no};
 ghost use Rattle.model.specs.Queries.{SUPPLIES, NEEDS, STANDARD, the_version};
 ghost use Rattle.query_replies.specs.Replied.{Replied, replied_to, of_component, of_pair, facilities_in};
+ghost use Rattle.refusal.specs.Numbers.{code, found};
 
 use book::Book;
-
-// What a query for facilities gives back: its answer, 0 where it is accepted, and the facilities found.
-#[derive(Clone, Copy)]
-pub struct Facilities {
-    pub answer: u8,
-    pub set: u64,
-}
-
-// The same of components.
-#[derive(Clone, Copy)]
-pub struct Components {
-    pub answer: u8,
-    pub set: u64,
-}
-
-// The same of one version.
-#[derive(Clone, Copy)]
-pub struct Version {
-    pub answer: u8,
-    pub version: usize,
-}
-
-// The same of pairs: how many rows were written into the lent slice.
-#[derive(Clone, Copy)]
-pub struct Pairs {
-    pub answer: u8,
-    pub rows: usize,
-}
+use refusal::Refusal;
 
 // ---- questions
 
 // The questions 1 and 4.
-pub fn asked_of_component(book: &Book, c: usize) -> u8
-    ensures { result ≡ first_no (of_component (plain book.now) c) }
+pub fn asked_of_component(book: &Book, c: usize) -> Result<(), Refusal>
+    ensures { code result ≡ first_no (of_component (plain book.now) c) }
 {
     if 32 <= c {
-        return 1;
+        return Err(Refusal::TooLarge);
     }
     if !book.is_specified(c) {
-        return 4;
+        return Err(Refusal::NotSpecified);
     }
-    0
+    Ok(())
 }
 
 // The questions 1, 4 and 10.
-fn asked_of_pair(book: &Book, c: usize, v: usize) -> u8
-    ensures { result ≡ first_no (of_pair (plain book.now) c v) }
+fn asked_of_pair(book: &Book, c: usize, v: usize) -> Result<(), Refusal>
+    ensures { code result ≡ first_no (of_pair (plain book.now) c v) }
 {
     if 64 <= v {
-        return 1;
+        return Err(Refusal::TooLarge);
     }
-    let answer = asked_of_component(book, c);
-    if answer != 0 {
-        return answer;
-    }
+    asked_of_component(book, c)?;
     if !book.has_version(c, v) {
-        return 10;
+        return Err(Refusal::NoVersion);
     }
-    0
+    Ok(())
 }
 
 // ---- queries on a Book that passes the test for 25
 
-// SUPPLIES.
-pub fn supplies_in(book: &Book, c: usize) -> Facilities
+// SUPPLIES: a set of facilities.
+pub fn supplies_in(book: &Book, c: usize) -> Result<u64, Refusal>
     requires { test.passes book.now.sets book.now.numbers ≡ true }
-    ensures { Replied facilities_in result.answer result.set (replied_to book.now.sets book.now.numbers (SUPPLIES c)) }
+    ensures { Replied facilities_in (code result) (found result) (replied_to book.now.sets book.now.numbers (SUPPLIES c)) }
 {
-    let answer = asked_of_component(book, c);
-    if answer != 0 {
-        return Facilities { answer, set: 0 };
-    }
-    Facilities {
-        answer: 0,
-        set: book.provides(c),
-    }
+    asked_of_component(book, c)?;
+    Ok(book.provides(c))
 }
 
-// NEEDS.
-pub fn needs_in(book: &Book, c: usize, v: usize) -> Facilities
+// NEEDS: a set of facilities.
+pub fn needs_in(book: &Book, c: usize, v: usize) -> Result<u64, Refusal>
     requires { test.passes book.now.sets book.now.numbers ≡ true }
-    ensures { Replied facilities_in result.answer result.set (replied_to book.now.sets book.now.numbers (NEEDS c v)) }
+    ensures { Replied facilities_in (code result) (found result) (replied_to book.now.sets book.now.numbers (NEEDS c v)) }
 {
-    let answer = asked_of_pair(book, c, v);
-    if answer != 0 {
-        return Facilities { answer, set: 0 };
-    }
+    asked_of_pair(book, c, v)?;
     let mut table: [u64; 2080] = [0; 2080];
     let set = book_needs::needs_of(book, c, v, &mut table);
-    Facilities { answer: 0, set }
+    Ok(set)
 }
 
-// STANDARD.
-pub fn standard_in(book: &Book, c: usize) -> Version
+// STANDARD: a version.
+pub fn standard_in(book: &Book, c: usize) -> Result<usize, Refusal>
     requires { test.passes book.now.sets book.now.numbers ≡ true }
-    ensures { Replied the_version result.answer result.version (replied_to book.now.sets book.now.numbers (STANDARD c)) }
+    ensures { Replied the_version (code result) (found result) (replied_to book.now.sets book.now.numbers (STANDARD c)) }
 {
-    let answer = asked_of_component(book, c);
-    if answer != 0 {
-        return Version { answer, version: 0 };
-    }
-    Version {
-        answer: 0,
-        version: book.standard(c),
-    }
+    asked_of_component(book, c)?;
+    Ok(book.standard(c))
 }

@@ -10,9 +10,10 @@ ghost use Rattle.model.specs.Queries.{UNDEFINED, UNUSED, WHEREUSED};
 ghost use Rattle.model.specs.Queries as model;
 ghost use Rattle.query_replies.specs.Replied.{Replied, replied_to, numbers_in, components_in};
 ghost use Rattle.query_replies.specs.Found.{undefined_at, used, unused_at, uses_at};
+ghost use Rattle.refusal.specs.Numbers.{code, found};
 
 use book::Book;
-use query_replies::Components;
+use refusal::Refusal;
 
 // Component c is specified and not defined.
 fn is_undefined(book: &Book, c: usize) -> bool
@@ -105,39 +106,27 @@ fn user_set(book: &Book, c: usize) -> u64
     found
 }
 
-// UNDEFINED.
-pub fn undefined_in(book: &Book) -> Components
+// UNDEFINED: a set of components. No question is put to it.
+pub fn undefined_in(book: &Book) -> u64
     requires { test.passes book.now.sets book.now.numbers ≡ true }
-    ensures { Replied components_in result.answer result.set (replied_to book.now.sets book.now.numbers UNDEFINED) }
+    ensures { Replied components_in 0 result (replied_to book.now.sets book.now.numbers UNDEFINED) }
 {
-    Components {
-        answer: 0,
-        set: undefined_set(book),
-    }
+    undefined_set(book)
 }
 
-// UNUSED.
-pub fn unused_in(book: &Book) -> Components
+// UNUSED: a set of components. No question is put to it.
+pub fn unused_in(book: &Book) -> u64
     requires { test.passes book.now.sets book.now.numbers ≡ true }
-    ensures { Replied components_in result.answer result.set (replied_to book.now.sets book.now.numbers UNUSED) }
+    ensures { Replied components_in 0 result (replied_to book.now.sets book.now.numbers UNUSED) }
 {
-    Components {
-        answer: 0,
-        set: unused_set(book),
-    }
+    unused_set(book)
 }
 
-// WHEREUSED.
-pub fn whereused_in(book: &Book, c: usize) -> Components
+// WHEREUSED: a set of components.
+pub fn whereused_in(book: &Book, c: usize) -> Result<u64, Refusal>
     requires { test.passes book.now.sets book.now.numbers ≡ true }
-    ensures { Replied components_in result.answer result.set (replied_to book.now.sets book.now.numbers (WHEREUSED c)) }
+    ensures { Replied components_in (code result) (found result) (replied_to book.now.sets book.now.numbers (WHEREUSED c)) }
 {
-    let answer = query_replies::asked_of_component(book, c);
-    if answer != 0 {
-        return Components { answer, set: 0 };
-    }
-    Components {
-        answer: 0,
-        set: user_set(book, c),
-    }
+    query_replies::asked_of_component(book, c)?;
+    Ok(user_set(book, c))
 }

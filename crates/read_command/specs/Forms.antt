@@ -1,5 +1,5 @@
 -- A command by its first word (document 01 and Fig. 2): what a keyword begins, and what stands behind it.
-use Rattle.std.specs.Prelude.{List, [], ◌∷◌, ◌≡◌, ◌≤◌, ℕ, drop, get_or, length}
+use Rattle.std.specs.Prelude.{List, None, Option as Found, Some, [], ◌∷◌, ◌≡◌, ◌≤◌, ℕ, drop, get_or, length}
 use Rattle.std.proofs.Math.Option.{Option, none, some}
 use Rattle.text.specs.Bytes.{Text}
 use Rattle.text.specs.Language.{DELMOD, DELMODVAR, DELSPEC, DELSYS, DELSYSVAR, NEEDS, Name, OUT, PARTS, Read, Reader, STANDARD, SUPPLIES, Said}
@@ -10,7 +10,7 @@ use Rattle.read_command.specs.declared.Command.TheVariants.{AddMod, AddModvar, A
 use Rattle.read_command.specs.declared.Component.{Component}
 use Rattle.read_command.specs.declared.Component.TheVariants as component
 use Rattle.read_command.specs.declared.Form.{Form}
-use Rattle.read_command.specs.declared.Form.TheVariants.{Asks, Changes, Nothing, Over}
+use Rattle.read_command.specs.declared.Form.TheVariants.{Asks, Changes, Over}
 use Rattle.read_command.specs.declared.Named.{Named}
 use Rattle.read_command.specs.declared.Named.TheVariants.{One, Pair}
 use Rattle.read_command.specs.declared.OfBook.{OfBook}
@@ -23,38 +23,42 @@ use Rattle.read_command.specs.declared.Query.{Query}
 use Rattle.read_command.specs.declared.Query.TheVariants.{ByName, Choice, Whole}
 use Rattle.read_command.specs.declared.Version.{Version}
 use Rattle.read_command.specs.declared.Version.TheVariants as version
+use Rattle.read_tokens.specs.declared.reader.Reader.{Reader as Place}
 
 -- ---- what a keyword begins
 
-abbrev of_one_name : OfComponent → Form
-of_one_name k = Asks (ByName (One k))
+abbrev of_one_name : OfComponent → Found Form
+of_one_name k = Some (Asks (ByName (One k)))
 
-abbrev of_two_names : OfVersion → Form
-of_two_names k = Asks (ByName (Pair k))
+abbrev of_two_names : OfVersion → Found Form
+of_two_names k = Some (Asks (ByName (Pair k)))
 
-abbrev of_none : OfBook → Form
-of_none k = Asks (Whole k)
+abbrev of_none : OfBook → Found Form
+of_none k = Some (Asks (Whole k))
 
-abbrev removes : Component → Form
-removes k = Changes (Remove k)
+abbrev adds : Command → Found Form
+adds k = Some (Changes k)
 
-abbrev removes_version : Version → Form
-removes_version k = Changes (RemoveVersion k)
+abbrev removes : Component → Found Form
+removes k = Some (Changes (Remove k))
+
+abbrev removes_version : Version → Found Form
+removes_version k = Some (Changes (RemoveVersion k))
 
 -- in the order of `keywords`
-unfoldable pub forms : List Form
+unfoldable pub forms : List (Found Form)
 forms =
-    of_one_name Supplies ∷ of_two_names Needs ∷ Asks Choice ∷ Nothing ∷ of_one_name Standard ∷ of_none book.Undefined ∷ of_none book.Unused ∷
-    of_one_name WhereUsed ∷ Nothing ∷ of_none book.Text ∷ Over ∷ Changes AddSpec ∷ Nothing ∷ Nothing ∷ Nothing ∷ Nothing ∷ Changes AddMod ∷
-    Nothing ∷ Changes AddSys ∷ Nothing ∷ removes component.Spec ∷ removes component.Module ∷ removes component.System ∷ Changes AddModvar ∷
-    Changes AddSysvar ∷ removes_version version.Module ∷ removes_version version.System ∷ of_two_names Parts ∷ []
+    of_one_name Supplies ∷ of_two_names Needs ∷ Some (Asks Choice) ∷ None ∷ of_one_name Standard ∷ of_none book.Undefined ∷ of_none book.Unused ∷
+    of_one_name WhereUsed ∷ None ∷ of_none book.Text ∷ Some Over ∷ adds AddSpec ∷ None ∷ None ∷ None ∷ None ∷ adds AddMod ∷ None ∷ adds AddSys ∷
+    None ∷ removes component.Spec ∷ removes component.Module ∷ removes component.System ∷ adds AddModvar ∷ adds AddSysvar ∷
+    removes_version version.Module ∷ removes_version version.System ∷ of_two_names Parts ∷ []
 
-unfoldable pub form_of : ℕ → Form
-form_of k = get_or forms k Nothing
+unfoldable pub form_of : ℕ → Found Form
+form_of k = get_or forms k None
 
 -- of a word, by its place among the keywords
-unfoldable pub word_form : Option ℕ → Form
-word_form none = Nothing
+unfoldable pub word_form : Option ℕ → Found Form
+word_form none = None
 word_form (some k) = form_of k
 
 -- ---- the command that is read, by its names
@@ -102,15 +106,24 @@ query_reader (ByName k) = named_reader k
 query_reader Choice = choice
 query_reader (Whole k) = give (asked_of_book k)
 
--- the command whose first word begins a form, read from the text behind this word; a keyword that begins none is not of the language there
+-- the command whose first word begins a form, read from the text behind this word
 unfoldable pub begun : Form → Text → Read
 begun (Changes c) t = read_as (command_reader c t)
 begun (Asks q) t = read_as (query_reader q t)
 begun Over t = over
-begun Nothing t = wrong
+
+-- a word that begins none is not of the language there
+unfoldable pub begun_if : Found Form → Text → Read
+begun_if (Some f) t = begun f t
+begun_if None t = wrong
 
 -- The command of the text t from position `at` on: its first word begins the form f, and the rest stands from e on.
 pub record Begins (t : Text) (at : ℕ) (f : Form) (e : ℕ) : Type 0 where
   pub is : command (drop at t) ≡ begun f (drop e t)
   pub from : at ≤ e
   pub inside : e ≤ length t
+
+-- the command where the reader r stands: its first word begins a form, and the reader s stands behind the word; or it is not of the language
+abbrev pub BeginsBy : Place → Place → Found Form → Type 0
+BeginsBy r s (Some f) = Begins r.text.now r.at f s.at × (s.text ≡ r.text)
+BeginsBy r s None = command (drop r.at r.text.now) ≡ wrong

@@ -1,65 +1,65 @@
 -- The names of deletions and queries: a law for each way out of the code.
-use Rattle.std.specs.Prelude.{Bool, false, true, not as notᵇ, ◌≡◌, refl, ℕ, drop}
+use Rattle.std.specs.Prelude.{None, Option, Some, ◌≡◌, drop}
 use Rattle.std.proofs.Math.Option.{none}
-use Rattle.std.proofs.Common.{◌∙◌, ap}
+use Rattle.std.proofs.Common.{◌∙◌, ap, arith, sym}
 use Rattle.model.specs.Maps.{and_then}
-use Rattle.text.specs.Bytes.{Text}
-use Rattle.text.specs.Language.{Name, Said, ◌>>=◌, give, name, of_one, of_pair, pair}
-use Rattle.text.specs.Language.{point, want}
-use Rattle.words.specs.Reading.{part}
-use Rattle.read_tokens.specs.PairLaws.{pair_no_name, pair_no_point, pair_no_version, pair_read}
-use Rattle.read_tokens.specs.Readers.{Answers, Any, PartOf}
+use Rattle.text.specs.Bytes.{Text, short}
+use Rattle.text.specs.Language.{Name, Said, ◌>>=◌, ◌>>◌, give, name, of_one, of_pair, pair, point, want}
+use Rattle.read_tokens.specs.Ahead.{Gives, IsWord}
+use Rattle.read_tokens.specs.ReaderLaws.{got_on, none_on}
+use Rattle.read_tokens.specs.Readers.{Any, Got}
 use Rattle.read_tokens.specs.TakeLaws.{name_short}
-use Rattle.read_tokens.specs.TokenLaws.{answer_no, answer_yes}
+use Rattle.read_tokens.specs.declared.reader.Reader.{Reader}
 use Rattle.read_command.specs.Words.{OneSaid, PairSaid}
+use Rattle.read_command.specs.declared.Pair.{Pair}
 
-pub one_said : (t : Text) (at a e : ℕ) (there : Bool) → Answers name (PartOf t a e) t at there e
-    → (f : Name → Said) → Answers (of_one f) (OneSaid f t a e) t at there e
+pub one_said : (r s : Reader) (o : Option Text) → Gives name IsWord r s o → (f : Name → Said) → Gives (of_one f) (OneSaid f) r s o
 unfolding of_one ◌>>=◌ and_then give
-one_said t at a e there r f = record {
-  yes = λ y. (let g = r.yes y in record {
-    value = f g.value;
-    is = rw g.is;
-    took = record { is = ap f g.took.is; span = g.took.span; fits = name_short t at a e e there r (ap notᵇ y) };
-    from = g.from;
-    inside = g.inside;
-  });
-  no = λ y. rw (r.no y);
-}
+one_said r s None n f = rw n
+one_said r s (Some w) g f = (
+  record {
+    value = f g.0.value;
+    is = rw g.0.is;
+    took = record { is = ap f g.0.took.is; fits = name_short r.text.now r.at s.at w g.0 };
+    from = g.0.from;
+    inside = g.0.inside;
+  },
+  g.1,
+)
 
-pair_none : (f : Name → Name → Said) (R : Said → Type 0) (t : Text) (at z : ℕ) → pair (drop at t) ≡ none → Answers (of_pair f) R t at false z
-unfolding of_pair ◌>>=◌ and_then
-pair_none f R t at z e = answer_no _ R t at z (rw e)
+module _ (f : Name → Name → Said) (r : Reader) where
+  pub said_no_name : name (drop r.at r.text.now) ≡ none → of_pair f (drop r.at r.text.now) ≡ none
+  unfolding of_pair pair ◌>>=◌ and_then
+  said_no_name n = rw n
 
-module _ (t : Text) (at a : ℕ) (c₀ : Bool) (Q : Name → Type 0) (n : Answers name Q t at c₀ a) where
-  pub said_no_name : notᵇ c₀ ≡ true → (f : Name → Name → Said) (R : Said → Type 0) (z : ℕ) → Answers (of_pair f) R t at false z
-  said_no_name y f R z = pair_none f R t at z ((pair_no_name t at a c₀ Q n Any z y).no refl)
+  module _ (s : Reader) (c : Text) (n : Got name (IsWord c) r.text.now r.at s.at × (s.text ≡ r.text)) where
+    pub said_no_point : want point (drop s.at s.text.now) ≡ none → of_pair f (drop r.at r.text.now) ≡ none
+    unfolding of_pair pair ◌>>=◌ ◌>>◌ and_then
+    said_no_point k = rw (n.0.is, none_on (want point) r s n.1 s.at k)
 
-  module _ (y : notᵇ c₀ ≡ false) (k₀ : Bool) (b : ℕ) (k : Answers (want point) Any t a k₀ b) where
-    pub said_no_point : notᵇ k₀ ≡ true → (f : Name → Name → Said) (R : Said → Type 0) (z : ℕ) → Answers (of_pair f) R t at false z
-    said_no_point x f R z = pair_none f R t at z ((pair_no_point t at a c₀ Q n Any y k₀ b k z x).no refl)
+    module _ (u : Reader) (k : Got (want point) Any s.text.now s.at u.at × (u.text ≡ s.text)) where
+      pointed : Got (want point) Any r.text.now s.at u.at
+      pointed = got_on (want point) r s n.1 Any s.at u.at k.0
 
-    module _ (x : notᵇ k₀ ≡ false) (v₀ : Bool) (e : ℕ) (Q' : Name → Type 0) (v : Answers name Q' t b v₀ e) where
-      pub said_no_version : notᵇ v₀ ≡ true → (f : Name → Name → Said) (R : Said → Type 0) (z : ℕ) → Answers (of_pair f) R t at false z
-      said_no_version w f R z = pair_none f R t at z ((pair_no_version t at a c₀ Q n Any y k₀ b k x v₀ e Q' v z w).no refl)
+      pub said_no_version : name (drop u.at u.text.now) ≡ none → of_pair f (drop r.at r.text.now) ≡ none
+      unfolding of_pair pair ◌>>=◌ ◌>>◌ and_then
+      said_no_version v = rw (n.0.is, pointed.is, none_on name r u (k.1 ∙ n.1) u.at v)
 
-pub pair_said : (t : Text) (at s a b l e : ℕ) (c₀ k₀ v₀ : Bool) → Answers name (PartOf t s a) t at c₀ a → notᵇ c₀ ≡ false
-    → Answers (want point) Any t a k₀ b → notᵇ k₀ ≡ false → Answers name (PartOf t l e) t b v₀ e → notᵇ v₀ ≡ false
-    → (f : Name → Name → Said) → Answers (of_pair f) (PairSaid f t (record { there = true; start = s; end = a; from = l; to = e })) t at true e
-unfolding of_pair ◌>>=◌ and_then give
-pair_said t at s a b l e c₀ k₀ v₀ n y k x v w f =
-    let m = pair_read t at a c₀ _ n (λ (z : Name × Name). PartOf t s a z.0 × PartOf t l e z.1) y k₀ b k x v₀ e _ v w (λ c u g h. (g, h)) in
-    let g = m.yes refl in
-    answer_yes _ _ t at e (record {
-      value = f g.value.0 g.value.1;
-      is = rw g.is;
-      took = record {
-        is = ap (λ (z : Name). f z g.value.1) g.took.0.is ∙ ap (f (part t s a)) g.took.1.is;
-        component = g.took.0.span;
-        version = g.took.1.span;
-        component_fits = name_short t at s a a c₀ n y;
-        version_fits = name_short t b l e e v₀ v w;
-      };
-      from = g.from;
-      inside = g.inside;
-    })
+      pub pair_said : (z : Reader) (p : Pair) → p.component.now ≡ c → Got name (IsWord p.version.now) u.text.now u.at z.at × (z.text ≡ u.text)
+          → Got (of_pair f) (PairSaid f p) r.text.now r.at z.at × (z.text ≡ r.text)
+      unfolding of_pair pair ◌>>=◌ ◌>>◌ and_then give
+      pair_said z p q v =
+          let g = got_on name r u (k.1 ∙ n.1) (IsWord p.version.now) u.at z.at v.0 in (
+            record {
+              value = f n.0.value g.value;
+              is = rw (n.0.is, pointed.is, g.is);
+              took = record {
+                is = ap (λ (x : Name). f x g.value) (n.0.took.is ∙ sym q) ∙ ap (f p.component.now) g.took.is;
+                component_fits = ap short q ∙ name_short r.text.now r.at s.at c n.0;
+                version_fits = name_short r.text.now u.at z.at p.version.now g;
+              };
+              from = (let a = n.0.from in let b = pointed.from in let d = g.from in omega arith);
+              inside = g.inside;
+            },
+            v.1 ∙ k.1 ∙ n.1,
+          )

@@ -45,11 +45,3 @@ module _ {A B : Type 0} where
   pub give_bind : (a : A) (f : A → Reader B) (u : Text) → (give a >>= f) u ≡ f a u
   unfolding ◌>>=◌ and_then give
   give_bind a f u = refl
-
-  pub bind_none : (p : Reader A) (f : A → Reader B) (u : Text) → p u ≡ none → (p >>= f) u ≡ none
-  unfolding ◌>>=◌ and_then
-  bind_none p f u e = rw e
-
-  pub bind_some : (p : Reader A) (f : A → Reader B) (u : Text) (a : A) (v : Text) → p u ≡ some (a, v) → (p >>= f) u ≡ f a v
-  unfolding ◌>>=◌ and_then
-  bind_some p f u a v e = rw e

@@ -1,33 +1,33 @@
 -- The versions of a specification read one after the other: tables, room, request and standard version are those of the whole list.
-use Rattle.std.specs.Prelude.{Bool, false, true, not as notᵇ, List, [], ◌∷◌, map, ◌≡◌, ◌≤◌, ℕ, drop, length}
+use Rattle.std.specs.Prelude.{Bool, false, true, List, [], ◌∷◌, map, ◌≡◌, ◌≤◌, ℕ, drop, length}
 use Rattle.std.proofs.Math.Logic.{inl, inr}
-use Rattle.std.proofs.Math.Option.{none, some}
-use Rattle.std.proofs.Common.{arith, ◌∙◌, ap₂}
-use borrow.Author.Tests.{not-false, not-true}
-use Rattle.command_lists.specs.GatheredLaws.{or_nothing}
-use Rattle.model.specs.Maps.{and_then}
-use Rattle.text.specs.Bytes.{Text, bytes, keywords}
-use Rattle.text.specs.Language.{◌>>=◌, ◌>>◌, give, key, list_of, semicolon, spec_version, the_one, want}
-use Rattle.text.specs.Tables.{name_at}
-use Rattle.text.specs.Tokens.{Token}
-use Rattle.read_tokens.specs.Readers.{Answers, Any, Got, key_at}
-use Rattle.read_tokens.specs.TokenLaws.{answer_no}
+use Rattle.std.proofs.Math.Option.{none}
+use Rattle.std.proofs.Common.{◌∙◌, ap₂, le_refl}
 use Rattle.std.proofs.Math.Path.{ap, refl, subst, sym}
+use Rattle.command_lists.specs.Gathered.{Gathered, nothing}
+use Rattle.command_lists.specs.GatheredLaws.{or_nothing}
+use Rattle.command_lists.specs.Said.{sets_step}
+use Rattle.command_lists.specs.Views.{sets_view}
+use Rattle.command_lists.specs.declared.Sets.{Sets}
 use Rattle.model.specs.Book.{facilities, versions}
 use Rattle.model.specs.Lists.{non_empty}
-use Rattle.command_lists.specs.Said.{sets_step}
-use Rattle.sets.specs.Sets.{bit}
+use Rattle.names.specs.Stored.{table_of}
+use Rattle.sets.specs.Sets.{Set, bit}
 use Rattle.sets.specs.TestLaws.{and-false, and_in, and_l, and_r, and-true, bool?, clash, if-false, if-true, not_in, not_out, or_l, or_r}
 use Rattle.sets.specs.Tests.{◌&◌, ◌or◌, ~◌}
-use Rattle.text.specs.Language.{Name, standards}
-use Rattle.text.specs.Tables.{Table, Tables, joined, number, numbers}
-use Rattle.read_tokens.specs.Asked.{SpecBody, SpecEnds, SpecState, SpecStep, spec_body, spec_start, spec_state}
-use Rattle.read_tokens.specs.declared.SpecVersions.{SpecVersions}
-use Rattle.names.specs.Stored.{table_of}
+use Rattle.text.specs.Bytes.{Text, bytes, keywords}
+use Rattle.text.specs.Language.{Name, key, standards, the_one}
+use Rattle.text.specs.Tables.{Table, Tables, joined, name_at, number, numbers}
+use Rattle.read_tokens.specs.Asked.{SpecBody, SpecState, SpecStep, SpecWith, spec_start, spec_state}
+use Rattle.read_tokens.specs.Entering.{Enters}
 use Rattle.read_tokens.specs.FacilityLaws.{facilities_are, facilities_grow, singles}
 use Rattle.read_tokens.specs.Growth.{Grows, Longer, NumberedAll}
 use Rattle.read_tokens.specs.GrowthLaws.{enters_longer, enters_number, grows_each, grows_one, longer_none, longer_same, longer_then, numbered_all}
-use Rattle.read_tokens.specs.Steps.{Each}
+use Rattle.read_tokens.specs.Readers.{Told, key_at}
+use Rattle.read_tokens.specs.SequenceLaws.{Lacks, Read}
+use Rattle.read_tokens.specs.Steps.{Each, FacilityStep}
+use Rattle.read_tokens.specs.declared.SpecVersions.{SpecVersions}
+use Rattle.read_tokens.specs.declared.reader.Reader.{Reader}
 
 abbrev Version : Type 0
 Version = Bool × (Name × List Name)
@@ -159,90 +159,82 @@ standard_is s s' (x ∷ xs) e n m =
     )
     first (v ∷ vs) q r o k = r.1 ∙ or_r e.0.twice _ (ap non_empty q ∙ (unfold non_empty in refl))
 
--- ---- the versions up to "end"
+-- ---- ["std"] vn ["requires" facs]
 
-end_key : key_at 3 ≡ key "end"
+pub std_key : key_at 13 ≡ key "std"
 unfolding key_at key name_at keywords bytes
-end_key = refl
+std_key = refl
 
-module _ (t : Text) (at e z : ℕ) (there m : Bool) (s s' : SpecState) (n : s.found ≡ false) (o : s.twice ≡ false)
-    (v : Answers (list_of semicolon spec_version) (Each SpecStep s s') t at there e) where
-  pub spec_body_wrong : (R : List Version × Name → Type 0) (y : ℕ) → notᵇ there ≡ true → Answers spec_body R t at there y
-  unfolding spec_body ◌>>=◌ and_then
-  spec_body_wrong R y q =
-      let f = not-true there q in
-      let w : spec_body (drop at t) ≡ none = rw (v.no f) in
-      subst (λ (b : Bool). Answers spec_body R t at b y) (sym f) (answer_no _ R t at y w)
+pub spec_stepped : (W W' F F' : List ℕ) (g r : SpecVersions) {std x : Bool} {number required : ℕ} {placed fit : Bool} {v : Name} {rs : List Name}
+    → Told std x → Enters versions (table_of versions W) (table_of versions W') number placed v
+    → Each FacilityStep (table_of facilities F, bit 0, g.facs) (table_of facilities F', bit required, fit) rs
+    → SpecWith g std number placed required fit r → SpecStep (spec_state W F g) (spec_state W' F' r) (x, (v, rs))
+unfolding spec_state
+spec_stepped W W' F F' g r {std = std} {x = x} {number = number} {required = required} {placed = placed} {v = v} {rs = rs} t e d w =
+    subst (λ (b : Bool). SpecStep (spec_state W F g) (spec_state W' F' r) (b, (v, rs))) (sym t.is) (record {
+      number = number;
+      placed = placed;
+      enters = e;
+      required = bit required;
+      requires = subst (λ (b : Bool). Each FacilityStep (table_of facilities F, bit 0, g.facs) (table_of facilities F', bit required, b) rs)
+          (sym w.facs) d;
+      sets = w.sets;
+      found = w.found;
+      twice = w.twice;
+      standard = w.standard;
+      fits = w.vers;
+    })
 
-  module _ (q : notᵇ there ≡ false) (k : Answers (want (key_at 3)) Any t e m z) where
-    got : Got (list_of semicolon spec_version) (Each SpecStep s s') t at e
-    got = v.yes (not-false there q)
+-- ---- the versions
 
-    ended : m ≡ true → want (key "end") (drop e t) ≡ some (tt, drop z t)
-    ended y = ap (λ (x : Token). want x (drop e t)) (sym end_key) ∙ (k.yes y).is
+pub spec_start_lem : (g : Sets) (room : Bool) → sets_view g ≡ nothing → (v f : List ℕ) → spec_state v f (record {
+  sets = g;
+  found = false;
+  twice = false;
+  standard = 0;
+  vers = true;
+  facs = room;
+}) ≡ spec_start (table_of versions v) (table_of facilities f) room
+unfolding spec_state spec_start
+spec_start_lem g room e v f = ap (λ (z : Gathered Set). record {
+  vers = table_of versions v;
+  facs = table_of facilities f;
+  sets = z;
+  found = false;
+  twice = false;
+  standard = 0;
+  vers_fit = true;
+  facs_fit = room;
+}) e
 
-    broken : m ≡ false → spec_body (drop at t) ≡ none
-    unfolding spec_body ◌>>=◌ ◌>>◌ and_then
-    broken y = rw (got.is, ap (λ (x : Token). want x (drop e t)) (sym end_key) ∙ k.no y)
-
-    body_of : (l : List Name) → standards got.value ≡ l → m ≡ true
-        → spec_body (drop at t) ≡ and_then (the_one l (drop z t)) (λ x. some ((got.value, x.0), x.1))
-    unfolding spec_body ◌>>=◌ ◌>>◌ and_then give
-    body_of l r y = rw (got.is, ended y, r)
-
-    by : (l : List Name) → standards got.value ≡ l → StandardIs s' l
-        → Answers spec_body (SpecBody s s') t at (m & (s'.found & ~ s'.twice)) z
-    by [] r f = record {
-      yes = λ y. clash (and_l _ _ (and_r _ _ y)) f;
-      no = λ y. elim (bool? m) [ inl b ↦ body_of [] r b ∙ (unfold the_one and_then in refl) | inr b ↦ broken b ];
-    }
-    by (w ∷ []) r f = record {
-      yes = λ y. (let b = and_l _ _ y in record {
-        value = (got.value, w);
-        is = body_of (w ∷ []) r b ∙ (unfold the_one and_then in refl);
-        took = record { steps = got.took; one = r };
-        from = (let i = got.from in let j = (k.yes b).from in omega arith);
-        inside = (k.yes b).inside;
-      });
-      no = λ y. elim (bool? m) [
-        | inl b ↦ clash (and_in _ _ b (and_in _ _ f.0 (not_in _ f.1))) y
-        | inr b ↦ broken b
-      ];
-    }
-    by (w ∷ (x ∷ xs)) r f = record {
-      yes = λ y. clash f (not_out _ (and_r _ _ (and_r _ _ y)));
-      no = λ y. elim (bool? m) [ inl b ↦ body_of (w ∷ (x ∷ xs)) r b ∙ (unfold the_one and_then in refl) | inr b ↦ broken b ];
-    }
-
-    pub spec_body_is : (there' : Bool) (z' : ℕ) (s'' : SpecState) → there' ≡ (m & (s'.found & ~ s'.twice)) → z' ≡ z → s'' ≡ s'
-        → Answers spec_body (SpecBody s s'') t at there' z'
-    spec_body_is there' z' s'' a b d =
-        subst (λ (y : Bool). Answers spec_body (SpecBody s s'') t at y z') (sym a)
-        (subst (λ (i : ℕ). Answers spec_body (SpecBody s s'') t at (m & (s'.found & ~ s'.twice)) i) (sym b)
-        (subst (λ (x : SpecState). Answers spec_body (SpecBody s x) t at (m & (s'.found & ~ s'.twice)) z) (sym d)
-        (by (standards got.value) refl (standard_is s s' got.value got.took n o))))
-
-module _ (t : Text) (at e : ℕ) (there : Bool) (W F W' F' : List ℕ) (room : Bool) (start v : SpecVersions)
+module _ (W F W' F' : List ℕ) (room : Bool) (start v : SpecVersions) (xs : List Version)
     (b : (w f : List ℕ) → spec_state w f start ≡ spec_start (table_of versions w) (table_of facilities f) room)
-    (a : Answers (list_of semicolon spec_version) (Each SpecStep (spec_state W F start) (spec_state W' F' v)) t at there e) where
-  from_start : Answers (list_of semicolon spec_version) (Each SpecStep (spec_start (table_of versions W) (table_of facilities F) room) (spec_state W' F' v)) t at there e
-  from_start = subst (λ (s : SpecState). Answers (list_of semicolon spec_version) (Each SpecStep s (spec_state W' F' v)) t at there e) (b W F) a
+    (h : Each SpecStep (spec_state W F start) (spec_state W' F' v) xs) where
+  steps : Each SpecStep (spec_start (table_of versions W) (table_of facilities F) room) (spec_state W' F' v) xs
+  steps = subst (λ (s : SpecState). Each SpecStep s (spec_state W' F' v) xs) (b W F) h
 
-  none_found : (spec_start (table_of versions W) (table_of facilities F) room).found ≡ false
-  unfolding spec_start
-  none_found = refl
+  standard : StandardIs (spec_state W' F' v) (standards xs)
+  standard = standard_is (spec_start (table_of versions W) (table_of facilities F) room) (spec_state W' F' v) xs steps
+      (unfold spec_start in refl) (unfold spec_start in refl)
 
-  none_twice_lem : (spec_start (table_of versions W) (table_of facilities F) room).twice ≡ false
-  unfolding spec_start
-  none_twice_lem = refl
+  none_of : (l : List Name) → StandardIs (spec_state W' F' v) l → (v.found & ~ v.twice) ≡ false → (u : Text) → the_one l u ≡ none
+  unfolding the_one spec_state
+  none_of [] f n u = refl
+  none_of (w ∷ []) f n u = clash (and_in _ _ f.0 (not_in _ f.1)) n
+  none_of (w ∷ (x ∷ ws)) f n u = refl
 
-  pub spec_body_stops : (R : List Version × Name → Type 0) (y : ℕ) → notᵇ there ≡ true → Answers spec_body R t at there y
-  spec_body_stops R y q = spec_body_wrong t at e 0 there false _ _ none_found none_twice_lem from_start R y q
+  some_of : (l : List Name) → StandardIs (spec_state W' F' v) l → (v.found & ~ v.twice) ≡ true → standards xs ≡ l
+      → (r : Reader)
+      → Read (the_one l) (λ w. SpecBody (spec_start (table_of versions W) (table_of facilities F) room) (spec_state W' F' v) (xs, w)) r r
+  unfolding the_one spec_state
+  some_of [] f n e r = clash (and_l _ _ n) f
+  some_of (w ∷ []) f n e r =
+      (record { value = w; is = refl; took = record { steps = steps; one = e }; from = le_refl _; inside = r.inside }, refl)
+  some_of (w ∷ (x ∷ ws)) f n e r = clash f (not_out _ (and_r _ _ n))
 
-  pub spec_body_taken : (m : Bool) (z : ℕ) (r : SpecVersions) → notᵇ there ≡ false → Answers (want (key_at 3)) Any t e m z → SpecEnds v m z r
-      → Answers spec_body (SpecBody (spec_start (table_of versions W) (table_of facilities F) room) (spec_state W' F' r)) t at r.there r.end
-  spec_body_taken m z r q k w =
-      spec_body_is t at e z there m _ _ none_found none_twice_lem from_start q k r.there r.end (spec_state W' F' r) told w.end_is (w.rest W' F')
-    where
-      told : r.there ≡ (m & ((spec_state W' F' v).found & ~ (spec_state W' F' v).twice))
-      told = w.there_is ∙ (unfold spec_state in refl)
+  pub none_standard : (v.found & ~ v.twice) ≡ false → (r : Reader) → Lacks (the_one (standards xs)) r
+  none_standard n r = none_of (standards xs) standard n (drop r.at r.text.now)
+
+  pub one_standard : (v.found & ~ v.twice) ≡ true → (r : Reader)
+      → Read (the_one (standards xs)) (λ w. SpecBody (spec_start (table_of versions W) (table_of facilities F) room) (spec_state W' F' v) (xs, w)) r r
+  one_standard n r = some_of (standards xs) standard n refl r

@@ -1,10 +1,9 @@
 -- The members of a composition.
-use Rattle.std.specs.Prelude.{Bool, not as notᵇ, List, [], ◌++◌, ◌∷◌, map, ◌≡◌, ◌<◌, ◌≤◌, ℕ, drop, length}
+use Rattle.std.specs.Prelude.{Bool, List, [], ◌++◌, ◌∷◌, map, ◌≡◌, ◌<◌, ◌≤◌, ℕ, drop, length}
 use Rattle.std.proofs.Math.Bool.{false, true}
 use Rattle.std.proofs.Math.Option.{Option, none, some}
 use Rattle.std.proofs.Common.{◌∙◌, ap₂, subst, sym, arith}
 use Rattle.std.proofs.Math.Path.{ap, refl}
-use Rattle.std.proofs.lemmas.Bool.{not-false, not-true}
 use Rattle.model.specs.Book.{components, versions}
 use Rattle.model.specs.Maps.{and_then, option_map}
 use Rattle.model.specs.Commands.{Members}
@@ -24,53 +23,45 @@ use Rattle.read_tokens.specs.GrowthLaws.{enters_longer, enters_number, grows_eac
 use Rattle.read_tokens.specs.Steps.{Each}
 use Rattle.read_tokens.specs.Entering.{Enters}
 use Rattle.read_sys.specs.MemberSteps.{MemberState, MemberStep, MemberWith, VersionTaken, member_start, member_state}
-use Rattle.read_tokens.specs.ProductionLaws.{at_end, passed}
-use Rattle.read_tokens.specs.Readers.{Answers, Got, Told}
+use Rattle.read_tokens.specs.ProductionLaws.{passed}
+use Rattle.read_tokens.specs.Readers.{Got, Told}
 use Rattle.read_tokens.specs.TakeLaws.{enters_small}
-use Rattle.read_tokens.specs.TokenLaws.{answer_no, answer_yes}
 use Rattle.read_tokens.specs.declared.Members as held
 
 -- ---- cn ["." vn]
 
-module _ (t : Text) (at a : ℕ) (c₀ : Bool) (Q : Name → Type 0) (n : Answers name Q t at c₀ a) (R : Name × Option Name → Type 0) where
-  pub member_no_name : (z : ℕ) → notᵇ c₀ ≡ true → Answers compo R t at false z
-  unfolding compo ◌>>=◌ and_then
-  member_no_name z y = answer_no _ R t at z (rw (n.no (not-true c₀ y)))
+pub member_no_name : (t : Text) (at : ℕ) → name (drop at t) ≡ none → compo (drop at t) ≡ none
+unfolding compo ◌>>=◌ and_then
+member_no_name t at n = rw n
 
-  module _ (y : notᵇ c₀ ≡ false) (d₀ : Bool) (b : ℕ) (d : Got (ahead point) (Told d₀) t a b) where
-    named : Got name Q t at a
-    named = n.yes (not-false c₀ y)
+module _ (t : Text) (at a b : ℕ) (Q : Name → Type 0) (n : Got name Q t at a) (d₀ : Bool) (d : Got (ahead point) (Told d₀) t a b) where
+  dotted : (x : Bool) → d₀ ≡ x → ahead point (drop a t) ≡ some (x, drop b t)
+  dotted x e = passed point t a b d₀ d ∙ ap (λ (z : Bool). some (z, drop b t)) e
 
-    dotted : (x : Bool) → d₀ ≡ x → ahead point (drop a t) ≡ some (x, drop b t)
-    dotted x e = passed point t a b d₀ d ∙ ap (λ (z : Bool). some (z, drop b t)) e
+  member_left_out : (R : Name × Option Name → Type 0) → d₀ ≡ false → ((c : Name) → Q c → R (c, none)) → Got compo R t at b
+  unfolding compo ◌>>=◌ and_then when give
+  member_left_out R x f = record {
+    value = (n.value, none);
+    is = rw (n.is, dotted false x);
+    took = f n.value n.took;
+    from = (let g = n.from in let h = d.from in omega arith);
+    inside = d.inside;
+  }
 
-    member_left_out : notᵇ d₀ ≡ true → ((c : Name) → Q c → R (c, none)) → Answers compo R t at true b
-    unfolding compo ◌>>=◌ and_then when give
-    member_left_out x f =
-        answer_yes _ R t at b (record {
-          value = (named.value, none);
-          is = rw (named.is, dotted false (not-true d₀ x));
-          took = f named.value named.took;
-          from = (let g = named.from in let h = d.from in omega arith);
-          inside = d.inside;
-        })
+  pub member_no_version : d₀ ≡ true → name (drop b t) ≡ none → compo (drop at t) ≡ none
+  unfolding compo ◌>>=◌ and_then when
+  member_no_version x v = rw (n.is, dotted true x, v)
 
-    module _ (x : notᵇ d₀ ≡ false) (v₀ : Bool) (e : ℕ) (Q' : Name → Type 0) (v : Answers name Q' t b v₀ e) where
-      pub member_no_version : (z : ℕ) → notᵇ v₀ ≡ true → Answers compo R t at false z
-      unfolding compo ◌>>=◌ and_then when
-      member_no_version z w = answer_no _ R t at z (rw (named.is, dotted true (not-false d₀ x), v.no (not-true v₀ w)))
-
-      member_version_lem : notᵇ v₀ ≡ false → ((c w : Name) → Q c → Q' w → R (c, some w)) → Answers compo R t at true e
-      unfolding compo ◌>>=◌ and_then when give
-      member_version_lem w f =
-          let g = v.yes (not-false v₀ w) in
-          answer_yes _ R t at e (record {
-            value = (named.value, some g.value);
-            is = rw (named.is, dotted true (not-false d₀ x), g.is);
-            took = f named.value g.value named.took g.took;
-            from = (let c = named.from in let h = d.from in let k = g.from in omega arith);
-            inside = g.inside;
-          })
+  member_version_lem : (R : Name × Option Name → Type 0) (e : ℕ) (Q' : Name → Type 0) → d₀ ≡ true → Got name Q' t b e
+      → ((c w : Name) → Q c → Q' w → R (c, some w)) → Got compo R t at e
+  unfolding compo ◌>>=◌ and_then when give
+  member_version_lem R e Q' x v f = record {
+    value = (n.value, some v.value);
+    is = rw (n.is, dotted true x, v.is);
+    took = f n.value v.value n.took v.took;
+    from = (let c = n.from in let h = d.from in let k = v.from in omega arith);
+    inside = v.inside;
+  }
 
 said_left_out : version_said 65535 ≡ none
 unfolding version_said ◌=?◌ if?◌then◌else◌
@@ -80,43 +71,38 @@ said_version : (k : ℕ) → k < versions → version_said k ≡ some k
 unfolding version_said
 said_version k h = if-false _ _ _ (=?-not k 65535 (λ e. absurd (omega arith)))
 
-module _ (t : Text) (at a b : ℕ) (c₀ d₀ : Bool) (C C' W : List ℕ) (g : held.Members) (j : ℕ) (placed : Bool) (r : held.Members)
-    (n : Answers name (Enters components (table_of components C) (table_of components C') j placed) t at c₀ a) (y : notᵇ c₀ ≡ false)
+module _ (t : Text) (at a b : ℕ) (C C' W : List ℕ) (g : held.Members) (j : ℕ) (placed : Bool) (r : held.Members)
+    (n : Got name (Enters components (table_of components C) (table_of components C') j placed) t at a) (d₀ : Bool)
     (d : Got (ahead point) (Told d₀) t a b) where
-  pub member_alone : notᵇ d₀ ≡ true → MemberWith g j placed 65535 true b r
-      → Answers compo (MemberStep (member_state C W g) (member_state C' W r)) t at r.there r.end
+  pub member_alone : d₀ ≡ false → MemberWith g j placed 65535 true r
+      → Got compo (MemberStep (member_state C W g) (member_state C' W r)) t at b
   unfolding member_state VersionTaken
-  member_alone x m =
-      at_end m.there m.end (member_left_out t at a c₀ _ n _ y d₀ b d x (λ c f. record {
-        number = j;
-        placed = placed;
-        enters = f;
-        version = none;
-        taken = (refl, m.vers ∙ and_swap g.vers true ∙ and-true _ _ refl, refl);
-        members = m.members ∙ ap (λ (o : Option ℕ). members_step (composition_view g.composition) (j, o)) said_left_out;
-        comps_fit_is = m.comps;
-      }))
+  member_alone x m = member_left_out t at a b _ n d₀ d _ x (λ c f. record {
+    number = j;
+    placed = placed;
+    enters = f;
+    version = none;
+    taken = (refl, m.vers ∙ and_swap g.vers true ∙ and-true _ _ refl, refl);
+    members = m.members ∙ ap (λ (o : Option ℕ). members_step (composition_view g.composition) (j, o)) said_left_out;
+    comps_fit_is = m.comps;
+  })
 
-  pub member_taken : (e : ℕ) (v₀ : Bool) (W' : List ℕ) (l : ℕ) (placed' : Bool) → notᵇ d₀ ≡ false
-      → Answers name (Enters versions (table_of versions W) (table_of versions W') l placed') t b v₀ e → notᵇ v₀ ≡ false
-      → MemberWith g j placed l placed' e r
-      → Answers compo (MemberStep (member_state C W g) (member_state C' W' r)) t at r.there r.end
+  pub member_taken : (e : ℕ) (W' : List ℕ) (l : ℕ) (placed' : Bool) → d₀ ≡ true
+      → Got name (Enters versions (table_of versions W) (table_of versions W') l placed') t b e → MemberWith g j placed l placed' r
+      → Got compo (MemberStep (member_state C W g) (member_state C' W' r)) t at e
   unfolding member_state VersionTaken
-  member_taken e v₀ W' l placed' x v w m =
-      at_end m.there m.end (member_version_lem t at a c₀ _ n _ y d₀ b d x v₀ e _ v w (λ c u f h. record {
-        number = j;
-        placed = placed;
-        enters = f;
-        version = some l;
-        taken = (l, placed', h, m.vers, refl);
-        members = m.members ∙ ap (λ (o : Option ℕ). members_step (composition_view g.composition) (j, o))
-            (said_version l (enters_small versions _ _ l placed' u h (omega arith)));
-        comps_fit_is = m.comps;
-      }))
+  member_taken e W' l placed' x v m = member_version_lem t at a b _ n d₀ d _ e _ x v (λ c u f h. record {
+    number = j;
+    placed = placed;
+    enters = f;
+    version = some l;
+    taken = (l, placed', h, m.vers, refl);
+    members = m.members ∙ ap (λ (o : Option ℕ). members_step (composition_view g.composition) (j, o))
+        (said_version l (enters_small versions _ _ l placed' u h (omega arith)));
+    comps_fit_is = m.comps;
+  })
 
 pub member_start_lem : (g : Composition) (a b : Bool) → composition_view g ≡ nothing → (c v : List ℕ) → member_state c v (record {
-  there = true;
-  end = 0;
   composition = g;
   comps = a;
   vers = b;

@@ -1,5 +1,5 @@
 -- What the reader of a composition carries from member to member.
-use Rattle.std.specs.Prelude.{Bool, true, List, ◌≡◌, ℕ}
+use Rattle.std.specs.Prelude.{Bool, List, ◌≡◌, ℕ}
 use Rattle.std.proofs.Math.Option.{Option, none, some}
 use Rattle.model.specs.Book.{components, versions}
 use Rattle.names.specs.Stored.{table_of}
@@ -48,9 +48,7 @@ pub record MemberStep (s s' : MemberState) (x : Name × Option Name) : Type 0 wh
   pub comps_fit_is : s'.comps_fit ≡ (s.comps_fit & placed)
 
 -- r is g with one member more
-pub record MemberWith (g : Members) (number : ℕ) (placed : Bool) (version : ℕ) (fit : Bool) (z : ℕ) (r : Members) : Type 0 where
-  pub there : r.there ≡ true
-  pub end : r.end ≡ z
+pub record MemberWith (g : Members) (number : ℕ) (placed : Bool) (version : ℕ) (fit : Bool) (r : Members) : Type 0 where
   pub members : composition_view r.composition ≡ members_step (composition_view g.composition) (number, version_said version)
   pub comps : r.comps ≡ (g.comps & placed)
   pub vers : r.vers ≡ (g.vers & fit)

@@ -1,7 +1,7 @@
 -- "sys": usable components, and versions with their compositions.
-use Rattle.std.specs.Prelude.{Bool, ◌&&◌, false, true, not as notᵇ, List, ◌≡◌, refl, ℕ}
-use Rattle.std.proofs.Common.{◌∙◌, subst, sym, arith}
-use Rattle.std.proofs.lemmas.Bool.{not-false, not-true}
+use Rattle.std.specs.Prelude.{Bool, ◌&&◌, List, ◌≡◌, refl, ℕ, drop}
+use Rattle.std.proofs.Math.Option.{none}
+use Rattle.std.proofs.Common.{subst, arith}
 use Rattle.model.specs.Book.{components, versions}
 use Rattle.model.specs.Maps.{and_then}
 use Rattle.names.specs.Stored.{table_of}
@@ -13,83 +13,68 @@ use Rattle.text.specs.Language.{Name, NamedMembers, ◌>>=◌, ◌>>◌, comma, 
 use Rattle.text.specs.Tables.{Table}
 use Rattle.read_tokens.specs.Entering.{Enters}
 use Rattle.read_sys.specs.MemberSteps.{MemberState, MemberStep, member_start, member_state}
-use Rattle.read_tokens.specs.ProductionLaws.{at_end}
-use Rattle.read_tokens.specs.Readers.{Answers, Any, Got}
+use Rattle.read_tokens.specs.Readers.{Any, Got}
 use Rattle.read_tokens.specs.Steps.{Each}
 use Rattle.read_sys.specs.SysSteps.{SysStep, SysWith, UsableStep, sys_state}
-use Rattle.read_tokens.specs.TokenLaws.{answer_no, answer_yes}
 use Rattle.read_tokens.specs.declared.Members as named
 use Rattle.read_tokens.specs.declared.SysVersions.{SysVersions}
 
-pub usable_taken : (t : Text) (at e : ℕ) (there : Bool) (u u' : Table) (k : ℕ) (room : Bool) (g g' : Gathered (Unit {0})) (before : Bool)
-    → Answers name (Enters components u u' k room) t at there e → notᵇ there ≡ false → g' ≡ usable_step g (alone k)
-    → Answers name (UsableStep (u, g, before) (u', g', (before && room))) t at true e
+pub usable_taken : (t : Text) (at e : ℕ) (u u' : Table) (k : ℕ) (room : Bool) (g g' : Gathered (Unit {0})) (before : Bool)
+    → Got name (Enters components u u' k room) t at e → g' ≡ usable_step g (alone k)
+    → Got name (UsableStep (u, g, before) (u', g', (before && room))) t at e
 unfolding ◌&◌
-usable_taken t at e there u u' k room g g' before r n q =
-    let o = r.yes (not-false there n) in
-    answer_yes _ _ t at e (record {
-      value = o.value;
-      is = o.is;
-      took = record { number = k; placed = room; enters = o.took; usable = q; room = refl };
-      from = o.from;
-      inside = o.inside;
-    })
+usable_taken t at e u u' k room g g' before o q = record {
+  value = o.value;
+  is = o.is;
+  took = record { number = k; placed = room; enters = o.took; usable = q; room = refl };
+  from = o.from;
+  inside = o.inside;
+}
 
 -- ---- vn "=" compos
 
-module _ (t : Text) (at a : ℕ) (v₀ : Bool) (Q : Name → Type 0) (n : Answers name Q t at v₀ a) (R : Name × NamedMembers → Type 0) where
-  pub sys_version_no_name : (z : ℕ) → notᵇ v₀ ≡ true → Answers sys_version R t at false z
-  unfolding sys_version ◌>>=◌ and_then
-  sys_version_no_name z y = answer_no _ R t at z (rw (n.no (not-true v₀ y)))
+pub sys_version_no_name : (t : Text) (at : ℕ) → name (drop at t) ≡ none → sys_version (drop at t) ≡ none
+unfolding sys_version ◌>>=◌ and_then
+sys_version_no_name t at n = rw n
 
-  module _ (y : notᵇ v₀ ≡ false) (k₀ : Bool) (b : ℕ) (k : Answers (want equals) Any t a k₀ b) where
-    named' : Got name Q t at a
-    named' = n.yes (not-false v₀ y)
+module _ (t : Text) (at a : ℕ) (Q : Name → Type 0) (n : Got name Q t at a) where
+  pub sys_version_no_mark : want equals (drop a t) ≡ none → sys_version (drop at t) ≡ none
+  unfolding sys_version ◌>>=◌ ◌>>◌ and_then
+  sys_version_no_mark k = rw (n.is, k)
 
-    pub sys_version_no_mark : (z : ℕ) → notᵇ k₀ ≡ true → Answers sys_version R t at false z
-    unfolding sys_version ◌>>=◌ ◌>>◌ and_then
-    sys_version_no_mark z x = answer_no _ R t at z (rw (named'.is, k.no (not-true k₀ x)))
+  module _ (b : ℕ) (k : Got (want equals) Any t a b) where
+    pub sys_version_no_members : list_of comma compo (drop b t) ≡ none → sys_version (drop at t) ≡ none
+    unfolding sys_version compos ◌>>=◌ ◌>>◌ and_then
+    sys_version_no_members m = rw (n.is, k.is, m)
 
-    module _ (x : notᵇ k₀ ≡ false) (m₀ : Bool) (e : ℕ) (Q' : NamedMembers → Type 0) (m : Answers (list_of comma compo) Q' t b m₀ e) where
-      marked : Got (want equals) Any t a b
-      marked = k.yes (not-false k₀ x)
+    sys_version_is : (R : Name × NamedMembers → Type 0) (e : ℕ) (Q' : NamedMembers → Type 0) → Got (list_of comma compo) Q' t b e
+        → ((v : Name) (ms : NamedMembers) → Q v → Q' ms → R (v, ms)) → Got sys_version R t at e
+    unfolding sys_version compos ◌>>=◌ ◌>>◌ and_then give
+    sys_version_is R e Q' m f = record {
+      value = (n.value, m.value);
+      is = rw (n.is, k.is, m.is);
+      took = f n.value m.value n.took m.took;
+      from = (let c = n.from in let d = k.from in let h = m.from in omega arith);
+      inside = m.inside;
+    }
 
-      pub sys_version_no_members : (z : ℕ) → notᵇ m₀ ≡ true → Answers sys_version R t at false z
-      unfolding sys_version compos ◌>>=◌ ◌>>◌ and_then
-      sys_version_no_members z w = answer_no _ R t at z (rw (named'.is, marked.is, m.no (not-true m₀ w)))
-
-      sys_version_is : notᵇ m₀ ≡ false → ((v : Name) (ms : NamedMembers) → Q v → Q' ms → R (v, ms)) → Answers sys_version R t at true e
-      unfolding sys_version compos ◌>>=◌ ◌>>◌ and_then give
-      sys_version_is w f =
-          let g = m.yes (not-false m₀ w) in
-          answer_yes _ R t at e (record {
-            value = (named'.value, g.value);
-            is = rw (named'.is, marked.is, g.is);
-            took = f named'.value g.value named'.took g.took;
-            from = (let c = named'.from in let d = marked.from in let h = g.from in omega arith);
-            inside = g.inside;
-          })
-
-pub sys_version_taken : (t : Text) (at a b e : ℕ) (v₀ k₀ m₀ : Bool) (C C' W W₁ W' : List ℕ) (g : SysVersions) (j : ℕ) (placed : Bool)
+pub sys_version_taken : (t : Text) (at a b e : ℕ) (C C' W W₁ W' : List ℕ) (g : SysVersions) (j : ℕ) (placed : Bool)
     (start m : named.Members) (r : SysVersions)
     → ((c v : List ℕ) → member_state c v start ≡ member_start (table_of components c) (table_of versions v) g.comps (g.vers && placed))
-    → Answers name (Enters versions (table_of versions W) (table_of versions W₁) j placed) t at v₀ a → notᵇ v₀ ≡ false
-    → Answers (want equals) Any t a k₀ b → notᵇ k₀ ≡ false
-    → Answers (list_of comma compo) (Each MemberStep (member_state C W₁ start) (member_state C' W' m)) t b m₀ e → notᵇ m₀ ≡ false
-    → e ≡ m.end → SysWith g j m r
-    → Answers sys_version (SysStep (sys_state C W g) (sys_state C' W' r)) t at r.there r.end
+    → Got name (Enters versions (table_of versions W) (table_of versions W₁) j placed) t at a → Got (want equals) Any t a b
+    → Got (list_of comma compo) (Each MemberStep (member_state C W₁ start) (member_state C' W' m)) t b e → SysWith g j m r
+    → Got sys_version (SysStep (sys_state C W g) (sys_state C' W' r)) t at e
 unfolding sys_state member_state ◌&◌
-sys_version_taken t at a b e v₀ k₀ m₀ C C' W W₁ W' g j placed start m r s n y k x q w f d =
-    at_end d.there (d.end ∙ sym f) (sys_version_is t at a v₀ _ n _ y k₀ b k x m₀ e _ q w (λ v ms h l. record {
-      number = j;
-      placed = placed;
-      between = table_of versions W₁;
-      enters = h;
-      last = member_state C' W' m;
-      members = subst (λ (z : MemberState). Each MemberStep z (member_state C' W' m) ms) (s C W₁) l;
-      comps = refl;
-      vers = refl;
-      comps_fit_is = d.comps;
-      vers_fit_is = d.vers;
-      compositions = d.compositions;
-    }))
+sys_version_taken t at a b e C C' W W₁ W' g j placed start m r s n k q d = sys_version_is t at a _ n b k _ e _ q (λ v ms h l. record {
+  number = j;
+  placed = placed;
+  between = table_of versions W₁;
+  enters = h;
+  last = member_state C' W' m;
+  members = subst (λ (z : MemberState). Each MemberStep z (member_state C' W' m) ms) (s C W₁) l;
+  comps = refl;
+  vers = refl;
+  comps_fit_is = d.comps;
+  vers_fit_is = d.vers;
+  compositions = d.compositions;
+})

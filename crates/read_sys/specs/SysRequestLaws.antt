@@ -1,11 +1,10 @@
 -- "sys" read whole.
-use Rattle.std.specs.Prelude.{Bool, false, not as notᵇ, ◌≡◌, ◌≤◌, ℕ, length}
+use Rattle.std.specs.Prelude.{Bool, ◌≡◌, ◌≤◌, ℕ, length}
 use Rattle.std.proofs.Math.Bool.{true}
 use mathlib.Core.List.{List, [], ◌∷◌, map}
 use Rattle.std.proofs.Math.Option.{Option, none, some}
 use Rattle.std.proofs.Common.{◌∙◌, ap₂, subst, arith}
 use Rattle.std.proofs.Math.Path.{ap, refl, sym}
-use Rattle.std.proofs.lemmas.Bool.{not-false, not-true}
 use Rattle.std.proofs.Math.ListN.{drop}
 use Rattle.model.specs.Book.{components, facilities, implementations, versions}
 use Rattle.model.specs.Commands.{ADD-SYS, Members}
@@ -31,20 +30,16 @@ use Rattle.read_tokens.specs.GrowthLaws.{grows_then, longer_none, longer_same, l
 use Rattle.read_sys.specs.MemberLaws.{member_all, member_comps, member_vers, members_fold}
 use Rattle.read_sys.specs.MemberSteps.{member_start}
 use Rattle.read_tokens.specs.ModLaws.{end_key}
-use Rattle.read_tokens.specs.ProductionLaws.{at_end}
-use Rattle.read_tokens.specs.Readers.{Answers, Any, Got, key_at}
+use Rattle.read_tokens.specs.Readers.{Any, Got, key_at}
 use Rattle.read_tokens.specs.Requested.{SysAsked, SysAsks, SysMade}
 use Rattle.read_tokens.specs.Steps.{Each}
 use Rattle.read_sys.specs.SysSteps.{SysState, SysStep, UsableStart, UsableStep, Usables, sys_start, sys_state}
 use Rattle.read_sys.specs.SysvarLaws.{and_more}
-use Rattle.read_tokens.specs.TokenLaws.{answer_no, answer_yes}
 use Rattle.read_tokens.specs.declared.SysRequest.{SysRequest}
 use Rattle.read_tokens.specs.declared.SysVersions.{SysVersions}
 use Rattle.read_tokens.specs.declared.UsableNames.{UsableNames}
 
 pub sys_start_lem : (g : Compositions) (a : Bool) → compositions_view g ≡ nothing → (c v : List ℕ) → sys_state c v (record {
-  there = true;
-  end = 0;
   compositions = g;
   comps = a;
   vers = true;
@@ -64,76 +59,51 @@ use_key : key_at 19 ≡ key "use"
 unfolding key_at key name_at keywords bytes
 use_key = refl
 
-module _ (t : Text) (at a : ℕ) (c₀ : Bool) (Q : Name → Type 0) (n : Answers name Q t at c₀ a) (R : Said → Type 0) where
-  sys_none : (there : Bool) (z : ℕ) → there ≡ false → add_sys (drop at t) ≡ none → Answers add_sys R t at there z
-  sys_none there z f e = subst (λ (b : Bool). Answers add_sys R t at b z) (sym f) (answer_no _ R t at z e)
+pub sys_no_name : (t : Text) (at : ℕ) → name (drop at t) ≡ none → add_sys (drop at t) ≡ none
+unfolding add_sys ◌>>=◌ and_then
+sys_no_name t at n = rw n
 
-  pub sys_no_name : (there : Bool) (z : ℕ) → there ≡ false → notᵇ c₀ ≡ true → Answers add_sys R t at there z
-  unfolding add_sys ◌>>=◌ and_then
-  sys_no_name there z f y = let w : add_sys (drop at t) ≡ none = rw (n.no (not-true c₀ y)) in sys_none there z f w
+module _ (t : Text) (at a : ℕ) (Q : Name → Type 0) (n : Got name Q t at a) where
+  pub sys_no_use : want (key_at 19) (drop a t) ≡ none → add_sys (drop at t) ≡ none
+  unfolding add_sys ◌>>=◌ ◌>>◌ and_then
+  sys_no_use k = rw (n.is, ap (λ (j : Token). want j (drop a t)) (sym use_key) ∙ k)
 
-  module _ (y : notᵇ c₀ ≡ false) (k₀ : Bool) (b : ℕ) (k : Answers (want (key_at 19)) Any t a k₀ b) where
-    cited : Got name Q t at a
-    cited = n.yes (not-false c₀ y)
+  module _ (b : ℕ) (k : Got (want (key_at 19)) Any t a b) where
+    uses : want (key "use") (drop a t) ≡ some (tt, drop b t)
+    uses = ap (λ (j : Token). want j (drop a t)) (sym use_key) ∙ k.is
 
-    pub sys_no_use : (there : Bool) (z : ℕ) → there ≡ false → notᵇ k₀ ≡ true → Answers add_sys R t at there z
-    unfolding add_sys ◌>>=◌ ◌>>◌ and_then
-    sys_no_use there z f x =
-        let w : add_sys (drop at t) ≡ none =
-        rw (cited.is, ap (λ (j : Token). want j (drop a t)) (sym use_key) ∙ k.no (not-true k₀ x)) in
-        sys_none there z f w
+    pub sys_no_usable : list_of comma name (drop b t) ≡ none → add_sys (drop at t) ≡ none
+    unfolding add_sys names ◌>>=◌ ◌>>◌ and_then
+    sys_no_usable u = rw (n.is, uses, u)
 
-    module _ (x : notᵇ k₀ ≡ false) (u₀ : Bool) (e : ℕ) (Q' : List Name → Type 0) (u : Answers (list_of comma name) Q' t b u₀ e) where
-      uses : want (key "use") (drop a t) ≡ some (tt, drop b t)
-      uses = ap (λ (j : Token). want j (drop a t)) (sym use_key) ∙ (k.yes (not-false k₀ x)).is
-
-      pub sys_no_usable : (there : Bool) (z : ℕ) → there ≡ false → notᵇ u₀ ≡ true → Answers add_sys R t at there z
+    module _ (e : ℕ) (Q' : List Name → Type 0) (u : Got (list_of comma name) Q' t b e) where
+      pub sys_no_mark : want semicolon (drop e t) ≡ none → add_sys (drop at t) ≡ none
       unfolding add_sys names ◌>>=◌ ◌>>◌ and_then
-      sys_no_usable there z f w = let o : add_sys (drop at t) ≡ none = rw (cited.is, uses, u.no (not-true u₀ w)) in sys_none there z f o
+      sys_no_mark q = rw (n.is, uses, u.is, q)
 
-      module _ (w : notᵇ u₀ ≡ false) (q₀ : Bool) (i : ℕ) (q : Answers (want semicolon) Any t e q₀ i) where
-        usable : Got (list_of comma name) Q' t b e
-        usable = u.yes (not-false u₀ w)
-
-        pub sys_no_mark : (there : Bool) (z : ℕ) → there ≡ false → notᵇ q₀ ≡ true → Answers add_sys R t at there z
+      module _ (i : ℕ) (q : Got (want semicolon) Any t e i) where
+        pub sys_no_versions : list_of semicolon sys_version (drop i t) ≡ none → add_sys (drop at t) ≡ none
         unfolding add_sys names ◌>>=◌ ◌>>◌ and_then
-        sys_no_mark there z f o =
-            let l : add_sys (drop at t) ≡ none = rw (cited.is, uses, usable.is, q.no (not-true q₀ o)) in sys_none there z f l
+        sys_no_versions v = rw (n.is, uses, u.is, q.is, v)
 
-        module _ (o : notᵇ q₀ ≡ false) (v₀ : Bool) (j : ℕ) (Q'' : List (Name × NamedMembers) → Type 0) (v : Answers (list_of semicolon sys_version) Q'' t i v₀ j) where
-          marked : Got (want semicolon) Any t e i
-          marked = q.yes (not-false q₀ o)
-
-          pub sys_no_versions : (there : Bool) (z : ℕ) → there ≡ false → notᵇ v₀ ≡ true → Answers add_sys R t at there z
+        module _ (j : ℕ) (Q'' : List (Name × NamedMembers) → Type 0) (v : Got (list_of semicolon sys_version) Q'' t i j) where
+          pub sys_no_end : want (key_at 3) (drop j t) ≡ none → add_sys (drop at t) ≡ none
           unfolding add_sys names ◌>>=◌ ◌>>◌ and_then
-          sys_no_versions there z f l =
-              let m : add_sys (drop at t) ≡ none = rw (cited.is, uses, usable.is, marked.is, v.no (not-true v₀ l)) in sys_none there z f m
+          sys_no_end d = rw (n.is, uses, u.is, q.is, v.is, ap (λ (g : Token). want g (drop j t)) (sym end_key) ∙ d)
 
-          module _ (l : notᵇ v₀ ≡ false) (d₀ : Bool) (z : ℕ) (d : Answers (want (key_at 3)) Any t j d₀ z) where
-            listed : Got (list_of semicolon sys_version) Q'' t i j
-            listed = v.yes (not-false v₀ l)
-
-            pub sys_no_end : (there : Bool) (h : ℕ) → there ≡ false → notᵇ d₀ ≡ true → Answers add_sys R t at there h
-            unfolding add_sys names ◌>>=◌ ◌>>◌ and_then
-            sys_no_end there h f m =
-                let r : add_sys (drop at t) ≡ none =
-                rw (cited.is, uses, usable.is, marked.is, listed.is, ap (λ (g : Token). want g (drop j t)) (sym end_key) ∙ d.no (not-true d₀ m)) in
-                sys_none there h f r
-
-            sys_read : notᵇ d₀ ≡ false → ((c : Name) (us : List Name) (ks : List (Name × NamedMembers)) → Q c → Q' us → Q'' ks → R (SYS c us ks))
-                → Answers add_sys R t at true z
-            unfolding add_sys names ◌>>=◌ ◌>>◌ and_then give
-            sys_read m h =
-                let g = d.yes (not-false d₀ m) in
-                let r : want (key "end") (drop j t) ≡ some (tt, drop z t) = ap (λ (g : Token). want g (drop j t)) (sym end_key) ∙ g.is in
-                answer_yes _ R t at z (record {
-                  value = SYS cited.value usable.value listed.value;
-                  is = rw (cited.is, uses, usable.is, marked.is, listed.is, r);
-                  took = h cited.value usable.value listed.value cited.took usable.took listed.took;
-                  from = (let a' = cited.from in let b' = (k.yes (not-false k₀ x)).from in let c' = usable.from in let d' = marked.from in
-                      let e' = listed.from in let f' = g.from in omega arith);
-                  inside = g.inside;
-                })
+          sys_read : (R : Said → Type 0) (z : ℕ) → Got (want (key_at 3)) Any t j z
+              → ((c : Name) (us : List Name) (ks : List (Name × NamedMembers)) → Q c → Q' us → Q'' ks → R (SYS c us ks)) → Got add_sys R t at z
+          unfolding add_sys names ◌>>=◌ ◌>>◌ and_then give
+          sys_read R z d h =
+              let r : want (key "end") (drop j t) ≡ some (tt, drop z t) = ap (λ (g : Token). want g (drop j t)) (sym end_key) ∙ d.is in
+              record {
+                value = SYS n.value u.value v.value;
+                is = rw (n.is, uses, u.is, q.is, v.is, r);
+                took = h n.value u.value v.value n.took u.took v.took;
+                from = (let a' = n.from in let b' = k.from in let c' = u.from in let d' = q.from in let e' = v.from in let f' = d.from in
+                    omega arith);
+                inside = d.inside;
+              }
 
 -- ---- usable components
 
@@ -287,20 +257,21 @@ module _ (t : Tables) (hc : length t.comps ≤ components) (hv : length t.vers �
       numbered : (c c' : ℕ) (u u' : List ℕ) (l l' : List (ℕ × Members)) → c ≡ c' → u ≡ u' → l ≡ l' → ADD-SYS c u l ≡ ADD-SYS c' u' l'
       numbered c c' u u' l l' d e f = rw (d, e, f)
 
-pub sys_asked_lem : (t : Text) (at a b e i j z : ℕ) (c₀ k₀ u₀ q₀ v₀ d₀ : Bool) (C C₁ C₂ C' W W' : List ℕ) (l : ℕ) (placed : Bool)
+pub sys_asked_lem : (t : Text) (at a b e i j z : ℕ) (C C₁ C₂ C' W W' : List ℕ) (l : ℕ) (placed : Bool)
     (start u : UsableNames) (begin v : SysVersions) (r : SysRequest)
     → UsableStart placed start
     → ((c w : List ℕ) → sys_state c w begin ≡ sys_start (table_of components c) (table_of versions w) u.comps)
-    → Answers name (Enters components (table_of components C) (table_of components C₁) l placed) t at c₀ a → notᵇ c₀ ≡ false
-    → Answers (want (key_at 19)) Any t a k₀ b → notᵇ k₀ ≡ false
-    → Answers (list_of comma name) (Each UsableStep (table_of components C₁, usable_view start.usable, start.comps) (table_of components C₂, usable_view u.usable, u.comps)) t b u₀ e
-    → notᵇ u₀ ≡ false → Answers (want semicolon) Any t e q₀ i → notᵇ q₀ ≡ false
-    → Answers (list_of semicolon sys_version) (Each SysStep (sys_state C₂ W begin) (sys_state C' W' v)) t i v₀ j → notᵇ v₀ ≡ false
-    → Answers (want (key_at 3)) Any t j d₀ z → notᵇ d₀ ≡ false → SysMade l u v z r
-    → (f o : List ℕ) → Answers add_sys (SysAsked (tables_of C W f o) (tables_of C' W' f o) r) t at r.there r.end
+    → Got name (Enters components (table_of components C) (table_of components C₁) l placed) t at a
+    → Got (want (key_at 19)) Any t a b
+    → Got (list_of comma name) (Each UsableStep (table_of components C₁, usable_view start.usable, start.comps)
+    (table_of components C₂, usable_view u.usable, u.comps)) t b e
+    → Got (want semicolon) Any t e i
+    → Got (list_of semicolon sys_version) (Each SysStep (sys_state C₂ W begin) (sys_state C' W' v)) t i j
+    → Got (want (key_at 3)) Any t j z → SysMade l u v r
+    → (f o : List ℕ) → Got add_sys (SysAsked (tables_of C W f o) (tables_of C' W' f o) r) t at z
 unfolding tables_of sys_state
-sys_asked_lem t at a b e i j z c₀ k₀ u₀ q₀ v₀ d₀ C C₁ C₂ C' W W' l placed start u begin v r s g n y k x p w q m h x' d y' n' f o =
-    at_end n'.there n'.end (sys_read t at a c₀ _ n _ y k₀ b k x u₀ e _ p w q₀ i q m v₀ j _ h x' d₀ z d y' (λ c us ks α β γ.
+sys_asked_lem t at a b e i j z C C₁ C₂ C' W W' l placed start u begin v r s g n k p q h d n' f o =
+    sys_read t at a _ n b k e _ p i q j _ h _ z d (λ c us ks α β γ.
     (let β₁ = subst (λ (x : Gathered (Unit {0})). Each UsableStep (table_of components C₁, x, start.comps) (table_of components C₂, usable_view u.usable, u.comps) us) s.none_yet β in
     let β₂ = subst (λ (x : Bool). Each UsableStep (table_of components C₁, nothing, x) (table_of components C₂, usable_view u.usable, u.comps) us) s.room_is β₁ in
     let γ₁ = subst (λ (x : SysState). Each SysStep x (sys_state C' W' v) ks) (g C₂ W) γ in
@@ -314,7 +285,7 @@ sys_asked_lem t at a b e i j z c₀ k₀ u₀ q₀ v₀ d₀ C C₁ C₂ C' W W'
       tables = λ x. four_tables tables after' _ _ _ _ _ grow (sym (and_more _ _) ∙ sym n'.room ∙ x);
       asks = λ x. sys_asks tables hc hv hf hi (table_of components C₁) (table_of components C₂) l placed u.comps (usable_view u.usable) (sys_state C' W' v) c us ks α β₂ γ₁ r
           (sym n'.room ∙ x) n'.component (ap usable_view n'.usable) (ap compositions_view n'.versions);
-    })))
+    }))
   where
     tables : Tables
     tables = tables_of C W f o

@@ -71,8 +71,6 @@ pub record SysStep (s s' : SysState) (x : Name × NamedMembers) : Type 0 where
 
 -- r is g with one version more
 pub record SysWith (g : SysVersions) (number : ℕ) (m : named.Members) (r : SysVersions) : Type 0 where
-  pub there : r.there ≡ true
-  pub end : r.end ≡ m.end
   pub compositions : (ms : Members) → composition_view m.composition ≡ members_of ms
       → compositions_view r.compositions ≡ compositions_step (compositions_view g.compositions) (number, ms)
   pub comps : r.comps ≡ m.comps

@@ -1,10 +1,9 @@
 -- "sysvar" read whole.
-use Rattle.std.specs.Prelude.{Bool, false, not as notᵇ, List, [], ◌∷◌, ◌≡◌, refl, ◌≤◌, ℕ, length}
+use Rattle.std.specs.Prelude.{Bool, List, [], ◌∷◌, ◌≡◌, refl, ◌≤◌, ℕ, length}
 use Rattle.std.proofs.Math.Bool.{true}
 use Rattle.std.proofs.Math.Option.{none, some}
 use Rattle.std.proofs.Common.{◌∙◌, subst, arith}
 use Rattle.std.proofs.Math.Path.{ap, sym}
-use Rattle.std.proofs.lemmas.Bool.{not-false, not-true}
 use Rattle.std.proofs.Math.ListN.{drop}
 use Rattle.model.specs.Book.{components, facilities, implementations, versions}
 use Rattle.model.specs.Commands.{ADD-SYSVAR, Members}
@@ -25,64 +24,44 @@ use Rattle.read_tokens.specs.GrowthLaws.{enters_number, grows_none, grows_one, g
 use Rattle.read_sys.specs.MemberLaws.{member_all, member_comps, member_vers, members_fold}
 use Rattle.read_sys.specs.MemberSteps.{MemberState, MemberStep, member_start, member_state}
 use Rattle.read_tokens.specs.ModLaws.{end_key}
-use Rattle.read_tokens.specs.ProductionLaws.{at_end}
-use Rattle.read_tokens.specs.Readers.{Answers, Any, Got, key_at}
+use Rattle.read_tokens.specs.Readers.{Any, Got, key_at}
 use Rattle.read_tokens.specs.Requested.{PairEnters, SysvarAsked, SysvarAsks, SysvarMade}
 use Rattle.read_tokens.specs.Steps.{Each}
-use Rattle.read_tokens.specs.TokenLaws.{answer_no, answer_yes}
 use Rattle.read_tokens.specs.declared.Members as named
 use Rattle.read_tokens.specs.declared.PairTaken.{PairTaken}
 use Rattle.read_tokens.specs.declared.SysvarRequest.{SysvarRequest}
 
-module _ (t : Text) (at a : ℕ) (p₀ : Bool) (Q : Name × Name → Type 0) (p : Answers pair Q t at p₀ a) (R : Said → Type 0) where
-  sysvar_none : (there : Bool) (z : ℕ) → there ≡ false → add_sysvar (drop at t) ≡ none → Answers add_sysvar R t at there z
-  sysvar_none there z f e = subst (λ (b : Bool). Answers add_sysvar R t at b z) (sym f) (answer_no _ R t at z e)
+pub sysvar_no_pair : (t : Text) (at : ℕ) → pair (drop at t) ≡ none → add_sysvar (drop at t) ≡ none
+unfolding add_sysvar ◌>>=◌ and_then
+sysvar_no_pair t at p = rw p
 
-  pub sysvar_no_pair : (there : Bool) (z : ℕ) → there ≡ false → notᵇ p₀ ≡ true → Answers add_sysvar R t at there z
-  unfolding add_sysvar ◌>>=◌ and_then
-  sysvar_no_pair there z f y = let w : add_sysvar (drop at t) ≡ none = rw (p.no (not-true p₀ y)) in sysvar_none there z f w
+module _ (t : Text) (at a : ℕ) (Q : Name × Name → Type 0) (p : Got pair Q t at a) where
+  pub sysvar_no_mark : want equals (drop a t) ≡ none → add_sysvar (drop at t) ≡ none
+  unfolding add_sysvar ◌>>=◌ ◌>>◌ and_then
+  sysvar_no_mark k = rw (p.is, k)
 
-  module _ (y : notᵇ p₀ ≡ false) (k₀ : Bool) (b : ℕ) (k : Answers (want equals) Any t a k₀ b) where
-    paired : Got pair Q t at a
-    paired = p.yes (not-false p₀ y)
+  module _ (b : ℕ) (k : Got (want equals) Any t a b) where
+    pub sysvar_no_members : list_of comma compo (drop b t) ≡ none → add_sysvar (drop at t) ≡ none
+    unfolding add_sysvar compos ◌>>=◌ ◌>>◌ and_then
+    sysvar_no_members m = rw (p.is, k.is, m)
 
-    pub sysvar_no_mark : (there : Bool) (z : ℕ) → there ≡ false → notᵇ k₀ ≡ true → Answers add_sysvar R t at there z
-    unfolding add_sysvar ◌>>=◌ ◌>>◌ and_then
-    sysvar_no_mark there z f x = let w : add_sysvar (drop at t) ≡ none = rw (paired.is, k.no (not-true k₀ x)) in sysvar_none there z f w
-
-    module _ (x : notᵇ k₀ ≡ false) (m₀ : Bool) (e : ℕ) (Q' : NamedMembers → Type 0) (m : Answers (list_of comma compo) Q' t b m₀ e) where
-      marked : Got (want equals) Any t a b
-      marked = k.yes (not-false k₀ x)
-
-      pub sysvar_no_members : (there : Bool) (z : ℕ) → there ≡ false → notᵇ m₀ ≡ true → Answers add_sysvar R t at there z
+    module _ (e : ℕ) (Q' : NamedMembers → Type 0) (m : Got (list_of comma compo) Q' t b e) where
+      pub sysvar_no_end : want (key_at 3) (drop e t) ≡ none → add_sysvar (drop at t) ≡ none
       unfolding add_sysvar compos ◌>>=◌ ◌>>◌ and_then
-      sysvar_no_members there z f w =
-          let u : add_sysvar (drop at t) ≡ none = rw (paired.is, marked.is, m.no (not-true m₀ w)) in sysvar_none there z f u
+      sysvar_no_end d = rw (p.is, k.is, m.is, ap (λ (j : Token). want j (drop e t)) (sym end_key) ∙ d)
 
-      module _ (w : notᵇ m₀ ≡ false) (d₀ : Bool) (z : ℕ) (d : Answers (want (key_at 3)) Any t e d₀ z) where
-        listed : Got (list_of comma compo) Q' t b e
-        listed = m.yes (not-false m₀ w)
-
-        pub sysvar_no_end : (there : Bool) (i : ℕ) → there ≡ false → notᵇ d₀ ≡ true → Answers add_sysvar R t at there i
-        unfolding add_sysvar compos ◌>>=◌ ◌>>◌ and_then
-        sysvar_no_end there i f o =
-            let u : add_sysvar (drop at t) ≡ none =
-            rw (paired.is, marked.is, listed.is, ap (λ (j : Token). want j (drop e t)) (sym end_key) ∙ d.no (not-true d₀ o)) in
-            sysvar_none there i f u
-
-        sysvar_read : notᵇ d₀ ≡ false → ((c : Name × Name) (ms : NamedMembers) → Q c → Q' ms → R (SYSVAR c.0 c.1 ms))
-            → Answers add_sysvar R t at true z
-        unfolding add_sysvar compos ◌>>=◌ ◌>>◌ and_then give
-        sysvar_read o h =
-            let g = d.yes (not-false d₀ o) in
-            let q : want (key "end") (drop e t) ≡ some (tt, drop z t) = ap (λ (j : Token). want j (drop e t)) (sym end_key) ∙ g.is in
-            answer_yes _ R t at z (record {
-              value = SYSVAR paired.value.0 paired.value.1 listed.value;
-              is = rw (paired.is, marked.is, listed.is, q);
-              took = h paired.value listed.value paired.took listed.took;
-              from = (let i = paired.from in let j = marked.from in let l = listed.from in let r = g.from in omega arith);
-              inside = g.inside;
-            })
+      sysvar_read : (R : Said → Type 0) (z : ℕ) → Got (want (key_at 3)) Any t e z
+          → ((c : Name × Name) (ms : NamedMembers) → Q c → Q' ms → R (SYSVAR c.0 c.1 ms)) → Got add_sysvar R t at z
+      unfolding add_sysvar compos ◌>>=◌ ◌>>◌ and_then give
+      sysvar_read R z d h =
+          let q : want (key "end") (drop e t) ≡ some (tt, drop z t) = ap (λ (j : Token). want j (drop e t)) (sym end_key) ∙ d.is in
+          record {
+            value = SYSVAR p.value.0 p.value.1 m.value;
+            is = rw (p.is, k.is, m.is, q);
+            took = h p.value m.value p.took m.took;
+            from = (let i = p.from in let j = k.from in let l = m.from in let r = d.from in omega arith);
+            inside = d.inside;
+          }
 
 pub and_more : (a b : Bool) → (a & b) ≡ (a & (b & (true & true)))
 and_more a b = ap (λ (x : Bool). a & x) (sym (and-true true b refl) ∙ and_swap true b ∙ ap (λ (x : Bool). b & x) (sym (and-true true true refl)))
@@ -124,16 +103,16 @@ module _ (t : Tables) (hc : length t.comps ≤ components) (hv : length t.vers �
       numbered : (c c' v v' : ℕ) (l l' : Members) → c ≡ c' → v ≡ v' → l ≡ l' → ADD-SYSVAR c v l ≡ ADD-SYSVAR c' v' l'
       numbered c c' v v' l l' d e f = rw (d, e, f)
 
-pub sysvar_asked_lem : (t : Text) (at a b e z : ℕ) (p₀ k₀ m₀ d₀ : Bool) (C C₁ C' W W₁ W' : List ℕ) (g : PairTaken) (start m : named.Members) (r : SysvarRequest)
+pub sysvar_asked_lem : (t : Text) (at a b e z : ℕ) (C C₁ C' W W₁ W' : List ℕ) (g : PairTaken) (start m : named.Members) (r : SysvarRequest)
     → ((c v : List ℕ) → member_state c v start ≡ member_start (table_of components c) (table_of versions v) g.comps g.vers)
-    → Answers pair (PairEnters (table_of components C) (table_of components C₁) (table_of versions W) (table_of versions W₁) g) t at p₀ a → notᵇ p₀ ≡ false
-    → Answers (want equals) Any t a k₀ b → notᵇ k₀ ≡ false
-    → Answers (list_of comma compo) (Each MemberStep (member_state C₁ W₁ start) (member_state C' W' m)) t b m₀ e → notᵇ m₀ ≡ false
-    → Answers (want (key_at 3)) Any t e d₀ z → notᵇ d₀ ≡ false → SysvarMade g m z r
-    → (f i : List ℕ) → Answers add_sysvar (SysvarAsked (tables_of C W f i) (tables_of C' W' f i) r) t at r.there r.end
+    → Got pair (PairEnters (table_of components C) (table_of components C₁) (table_of versions W) (table_of versions W₁) g) t at a
+    → Got (want equals) Any t a b
+    → Got (list_of comma compo) (Each MemberStep (member_state C₁ W₁ start) (member_state C' W' m)) t b e
+    → Got (want (key_at 3)) Any t e z → SysvarMade g m r
+    → (f i : List ℕ) → Got add_sysvar (SysvarAsked (tables_of C W f i) (tables_of C' W' f i) r) t at z
 unfolding tables_of member_state
-sysvar_asked_lem t at a b e z p₀ k₀ m₀ d₀ C C₁ C' W W₁ W' g start m r s p y k x q w d o n f i =
-    at_end n.there n.end (sysvar_read t at a p₀ _ p _ y k₀ b k x m₀ e _ q w d₀ z d o (λ c ms j h.
+sysvar_asked_lem t at a b e z C C₁ C' W W₁ W' g start m r s p k q d n f i =
+    sysvar_read t at a _ p b k e _ q _ z d (λ c ms j h.
     (let u = subst (λ (l : MemberState). Each MemberStep l (member_state C' W' m) ms) (s C₁ W₁) h in
     let grow = sysvar_grow tables hc hv hf hi (table_of components C₁) (table_of versions W₁) (member_state C' W' m) g c ms j u in
     record {
@@ -145,7 +124,7 @@ sysvar_asked_lem t at a b e z p₀ k₀ m₀ d₀ C C₁ C' W W₁ W' g start m 
       tables = λ l. four_tables tables after' _ _ _ _ _ grow (sym (and_more _ _) ∙ sym n.room ∙ l);
       asks = λ l. sysvar_asks tables hc hv hf hi (table_of components C₁) (table_of versions W₁) (member_state C' W' m) g c ms j u r (sym n.room ∙ l)
           n.component n.version (ap composition_view n.composition);
-    })))
+    }))
   where
     tables : Tables
     tables = tables_of C W f i

@@ -8,7 +8,7 @@ use Rattle.command_lists.specs.Gathered.{Gathered, nothing}
 use Rattle.command_lists.specs.Said.{sets_step}
 use Rattle.command_lists.specs.Views.{sets_view}
 use Rattle.sets.specs.Sets.{Set, bit}
-use Rattle.sets.specs.Tests.{◌&◌, ◌or◌, if?◌then◌else◌, ~◌}
+use Rattle.sets.specs.Tests.{◌&◌, ◌or◌, if?◌then◌else◌}
 use Rattle.text.specs.Language.{Name, Reader, ◌>>=◌, ◌>>◌, give, key, list_of, semicolon, spec_version, standards, the_one, want}
 use Rattle.text.specs.Tables.{Table}
 use Rattle.read_tokens.specs.Entering.{Enters}
@@ -60,9 +60,7 @@ pub record SpecStep (s s' : SpecState) (x : Bool × (Name × List Name)) : Type 
   pub fits : s'.vers_fit ≡ (s.vers_fit & placed)
 
 -- r is g with one version more
-pub record SpecWith (g : SpecVersions) (std : Bool) (number : ℕ) (placed : Bool) (required : ℕ) (fit : Bool) (z : ℕ) (r : SpecVersions) : Type 0 where
-  pub there : r.there ≡ true
-  pub end : r.end ≡ z
+pub record SpecWith (g : SpecVersions) (std : Bool) (number : ℕ) (placed : Bool) (required : ℕ) (fit : Bool) (r : SpecVersions) : Type 0 where
   pub sets : (fs : List ℕ) → each_below facilities fs ≡ true → set_of fs ≡ bit required
       → sets_view r.sets ≡ sets_step (sets_view g.sets) (number, fs)
   pub found : r.found ≡ (g.found or std)
@@ -82,9 +80,3 @@ spec_body = do
 pub record SpecBody (s s' : SpecState) (x : List (Bool × (Name × List Name)) × Name) : Type 0 where
   pub steps : Each SpecStep s s' x.0
   pub one : standards x.0 ≡ x.1 ∷ []
-
--- r is v, read up to "end"
-pub record SpecEnds (v : SpecVersions) (there : Bool) (z : ℕ) (r : SpecVersions) : Type 0 where
-  pub there_is : r.there ≡ (there & (v.found & ~ v.twice))
-  pub end_is : r.end ≡ z
-  pub rest : (w f : List ℕ) → spec_state w f r ≡ spec_state w f v

@@ -1,6 +1,6 @@
 -- Names put into the tables as they are read: "An accepted command puts its new names into the lowest free places in order of
 -- mention".
-use Rattle.std.specs.Prelude.{Bool, true, List, [], ◌∷◌, ◌≡◌, ◌*◌, ℕ, length}
+use Rattle.std.specs.Prelude.{Bool, true, List, ◌≡◌, ◌*◌, ℕ, length}
 use Rattle.model.specs.Lists.{every, non_empty}
 use Rattle.model.specs.Maps.{is_some, or_else}
 use Rattle.names.specs.Stored.{place_with, table_of, table_with}

@@ -1,21 +1,21 @@
 -- Laws of names put in one after the other, for all four tables and every list.
-use Rattle.std.specs.Prelude.{Bool, false, true, List, [], ◌++◌, ◌∷◌, map, ◌⊎◌, ◌≡◌, refl, ◌<◌, ◌≤◌, ℕ}
+use Rattle.std.specs.Prelude.{Bool, false, true, List, [], ◌++◌, ◌∷◌, map, ◌≡◌, refl, ◌<◌, ◌≤◌, ℕ}
 use Rattle.std.proofs.Common.{append_assoc, append-nil, ◌∙◌, ap₂, arith, length-append}
 use Rattle.std.proofs.Math.Logic.{inl, inr}
-use Rattle.std.proofs.Math.Option.{Option, none, some}
+use Rattle.std.proofs.Math.Option.{Option, some}
 use Rattle.std.proofs.Math.Path.{ap, subst, sym}
 use Rattle.std.proofs.Math.ListN.{length}
 use Rattle.model.specs.Lists.{every}
 use Rattle.model.specs.Maps.{is_some, or_else}
 use Rattle.names.specs.Stored.{place_with, table_with}
-use Rattle.sets.specs.TestLaws.{and-false, and_in, and_l, and_no, and_r, and-true, bool?, clash, fails, if-false, if-true, iff→≡}
+use Rattle.sets.specs.TestLaws.{and-false, and_in, and_l, and_r, and-true, bool?, clash, fails, if-false, if-true, iff→≡}
 use Rattle.sets.specs.TestLaws.{≤?_in, ≤?_out}
 use Rattle.sets.specs.Tests.{◌&◌, ◌≤?◌, if?◌then◌else◌}
 use Rattle.text.specs.Language.{Name}
 use Rattle.text.specs.Tables.{Table, Tables, enter, joined, number, place}
 use Rattle.text_laws.specs.Places.{enter_has, enter_longer, place-among, place_longer, place_name, place_there}
 use Rattle.text.specs.Bytes.{among}
-use Rattle.model_laws.specs.MapLaws.{is_some_out, no_some}
+use Rattle.model_laws.specs.MapLaws.{is_some_out}
 use Rattle.read_tokens.specs.Entering.{Enters}
 use Rattle.read_tokens.specs.Growth.{Grows, Later, Longer, NumberedAll, NumberedOne, fold_on}
 use Rattle.read_tokens.specs.Steps.{Each}

@@ -1,4 +1,5 @@
 pub mod Readers
+pub mod Ahead
 pub mod Entering
 pub mod Steps
 pub mod Asked
@@ -8,6 +9,8 @@ pub mod Growth
 pub mod TokenLaws
 pub mod TakeLaws
 pub mod ListLaws
+pub mod ReaderLaws
+pub mod SequenceLaws
 pub mod GrowthLaws
 pub mod ProductionLaws
 pub mod FacilityLaws

@@ -43,9 +43,7 @@ pub record ModStep (s s' : ModState) (x : Name × Name) : Type 0 where
   pub impls_fit_is : s'.impls_fit ≡ (s.impls_fit & impl_placed)
 
 -- r is g with one version more
-pub record ModWith (g : ModVersions) (number : ℕ) (placed : Bool) (impl : ℕ) (impl_placed : Bool) (z : ℕ) (r : ModVersions) : Type 0 where
-  pub there : r.there ≡ true
-  pub end : r.end ≡ z
+pub record ModWith (g : ModVersions) (number : ℕ) (placed : Bool) (impl : ℕ) (impl_placed : Bool) (r : ModVersions) : Type 0 where
   pub numbers : numbers_view r.numbers ≡ numbers_step (numbers_view g.numbers) (number, impl)
   pub vers : r.vers ≡ (g.vers & placed)
   pub impls : r.impls ≡ (g.impls & impl_placed)

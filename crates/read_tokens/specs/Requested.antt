@@ -48,8 +48,6 @@ pub record SpecAsked (t t' : Tables) (r : SpecRequest) (x : Said) : Type 0 where
   pub asks : r.room ≡ true → SpecAsks (spec_numbered t' c ps vs s) r
 
 pub record SpecMade (number : ℕ) (placed : Bool) (provided : ℕ) (v : SpecVersions) (r : SpecRequest) : Type 0 where
-  pub there : r.there ≡ true
-  pub end : r.end ≡ v.end
   pub component : r.component ≡ number
   pub set : r.provided ≡ provided
   pub versions : r.versions ≡ v.sets
@@ -71,9 +69,7 @@ pub record ModAsked (t t' : Tables) (r : ModRequest) (x : Said) : Type 0 where
   pub tables : r.room ≡ true → t' ≡ entered t (mod_names c is)
   pub asks : r.room ≡ true → ModAsks (mod_numbered t' c is) r
 
-pub record ModMade (number : ℕ) (placed : Bool) (v : ModVersions) (z : ℕ) (r : ModRequest) : Type 0 where
-  pub there : r.there ≡ true
-  pub end : r.end ≡ z
+pub record ModMade (number : ℕ) (placed : Bool) (v : ModVersions) (r : ModRequest) : Type 0 where
   pub component : r.component ≡ number
   pub versions : r.versions ≡ v.numbers
   pub room : r.room ≡ (placed & (v.vers & v.impls))
@@ -85,9 +81,7 @@ pub record PairEnters (c c' v v' : Table) (r : PairTaken) (x : Name × Name) : T
   pub component : Enters components c c' r.component r.comps x.0
   pub version : Enters versions v v' r.version r.vers x.1
 
-pub record PairMade (number : ℕ) (placed : Bool) (version : ℕ) (placed' : Bool) (z : ℕ) (r : PairTaken) : Type 0 where
-  pub there : r.there ≡ true
-  pub end : r.end ≡ z
+pub record PairMade (number : ℕ) (placed : Bool) (version : ℕ) (placed' : Bool) (r : PairTaken) : Type 0 where
   pub component : r.component ≡ number
   pub comps : r.comps ≡ placed
   pub version_is : r.version ≡ version
@@ -109,9 +103,7 @@ pub record ModvarAsked (t t' : Tables) (r : ModvarRequest) (x : Said) : Type 0 w
   pub tables : r.room ≡ true → t' ≡ entered t (modvar_names c v rs i)
   pub asks : r.room ≡ true → ModvarAsks (modvar_numbered t' c v rs i) r
 
-pub record ModvarMade (p : PairTaken) (set : ℕ) (fit : Bool) (impl : ℕ) (placed : Bool) (z : ℕ) (r : ModvarRequest) : Type 0 where
-  pub there : r.there ≡ true
-  pub end : r.end ≡ z
+pub record ModvarMade (p : PairTaken) (set : ℕ) (fit : Bool) (impl : ℕ) (placed : Bool) (r : ModvarRequest) : Type 0 where
   pub component : r.component ≡ p.component
   pub version : r.version ≡ p.version
   pub required : r.required ≡ set
@@ -134,9 +126,7 @@ pub record SysvarAsked (t t' : Tables) (r : SysvarRequest) (x : Said) : Type 0 w
   pub tables : r.room ≡ true → t' ≡ entered t (sysvar_names c v ms)
   pub asks : r.room ≡ true → SysvarAsks (sysvar_numbered t' c v ms) r
 
-pub record SysvarMade (p : PairTaken) (m : named.Members) (z : ℕ) (r : SysvarRequest) : Type 0 where
-  pub there : r.there ≡ true
-  pub end : r.end ≡ z
+pub record SysvarMade (p : PairTaken) (m : named.Members) (r : SysvarRequest) : Type 0 where
   pub component : r.component ≡ p.component
   pub version : r.version ≡ p.version
   pub composition : r.composition ≡ m.composition
@@ -160,9 +150,7 @@ pub record SysAsked (t t' : Tables) (r : SysRequest) (x : Said) : Type 0 where
   pub tables : r.room ≡ true → t' ≡ entered t (sys_names c us ks)
   pub asks : r.room ≡ true → SysAsks (sys_numbered t' c us ks) r
 
-pub record SysMade (number : ℕ) (u : UsableNames) (v : SysVersions) (z : ℕ) (r : SysRequest) : Type 0 where
-  pub there : r.there ≡ true
-  pub end : r.end ≡ z
+pub record SysMade (number : ℕ) (u : UsableNames) (v : SysVersions) (r : SysRequest) : Type 0 where
   pub component : r.component ≡ number
   pub usable : r.usable ≡ u.usable
   pub versions : r.versions ≡ v.compositions

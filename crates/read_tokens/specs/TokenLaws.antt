@@ -1,5 +1,5 @@
 -- Tokens read from a position: a law for each way out of the code.
-use Rattle.std.specs.Prelude.{Bool, false, true, ◌≡◌, refl, ◌+◌, ◌<◌, ◌≤◌, ℕ, eqb}
+use Rattle.std.specs.Prelude.{Bool, None, Option as Found, Some, false, true, ◌≡◌, refl, ◌+◌, ◌<◌, ◌≤◌, ℕ}
 use Rattle.std.proofs.Common.{inl, inr, ◌∙◌, length-drop}
 use Rattle.std.proofs.Math.Option.{Option, some-injective, none, some}
 use Rattle.std.proofs.Math.Path.{ap, subst, sym}
@@ -10,7 +10,8 @@ use Rattle.sets.specs.TestLaws.{=?-in, =?-out, bool?, clash, fails, if-false, if
 use Rattle.model_laws.specs.MapLaws.{no_some}
 use Rattle.words.specs.KeywordLaws.{keyword_length}
 use Rattle.words.specs.Keywords.{keyword_count}
-use Rattle.words.specs.WordLaws.{word_ends, word_next, word_none, word_open, word_part}
+use Rattle.words.specs.TokenLaws.{mark_within, part_length, quoted_within}
+use Rattle.words.specs.WordLaws.{word_ends, word_next, word_none, word_open}
 use Rattle.text_laws.specs.TextLaws.{same_out, same_sym}
 use Rattle.sets.specs.Tests.{◌=?◌}
 use Rattle.text.specs.Bytes.{Text, keywords, name_word, same}
@@ -20,12 +21,11 @@ use Rattle.text.specs.Tokens.{Next, bad, end, is_token, mark, next_token, quoted
 use Rattle.text.specs.Tokens as tokens
 use Rattle.text_laws.specs.Left.{LeftO, left_length}
 use Rattle.text_laws.specs.Takes.{Takes}
-use Rattle.words.specs.Reading.{Reads, ReadsWithin, Skips, next_of, part, word_at, word_of}
-use Rattle.words.specs.declared.Skipped.{Skipped}
-use Rattle.words.specs.declared.Skipped.TheVariants.{To, Open}
+use Rattle.words.specs.Reading.{Reads, Skips, next_of, part, word_at, word_of}
 use Rattle.words.specs.declared.Token.{Token}
-use Rattle.words.specs.declared.Token.TheVariants.{Word, Quoted, Mark, End, Bad}
-use Rattle.read_tokens.specs.Readers.{Answers, Any, Got, PartOf, key_at}
+use Rattle.words.specs.declared.Token.TheVariants.{Word, Quoted, Mark, End}
+use Rattle.read_tokens.specs.Ahead.{IsWord}
+use Rattle.read_tokens.specs.Readers.{Answers, Any, Got, key_at}
 
 -- ---- answers
 
@@ -34,15 +34,6 @@ answer_no p R t at e h = record { yes = λ q. clash q refl; no = λ q. h }
 
 pub answer_yes : {A : Type 0} (p : Reader A) (R : A → Type 0) (t : Text) (at e : ℕ) → Got p R t at e → Answers p R t at true e
 answer_yes p R t at e g = record { yes = λ q. g; no = λ q. clash refl q }
-
-pub answer_only : {A : Type 0} (p : Reader A) (R : A → Type 0) (t : Text) (at e : ℕ) (b : Bool) (x : A)
-    → p (drop at t) ≡ only_if b (x, drop e t) → R x → at ≤ e → e ≤ length t → Answers p R t at b e
-unfolding only_if
-answer_only p R t at e true x h r l i = answer_yes p R t at e (record { value = x; is = h; took = r; from = l; inside = i })
-answer_only p R t at e false x h r l i = answer_no p R t at e h
-
-=?-turn : (c d : ℕ) → (c =? d) ≡ (d =? c)
-=?-turn c d = iff→≡ _ _ (λ e. =?-in d c (sym (=?-out c d e))) (λ e. =?-in c d (sym (=?-out d c e)))
 
 -- a reader that takes a byte at least reads on
 pub got_less : {A : Type 0} (p : Reader A) (R : A → Type 0) (t : Text) (at e : ℕ) → Takes 1 p → Got p R t at e → at ≤ length t → at < e
@@ -63,69 +54,78 @@ same_turn x y = iff→≡ _ _ (same_sym x y) (same_sym y x)
 
 -- ---- one token
 
-module _ (t : Text) (at : ℕ) (r : Token) (s : Reads t at (next_token (drop at t)) r) where
-  -- an implementation
-  pub imp_yes : (a e : ℕ) → r ≡ Quoted a e → Answers imp (PartOf t a e) t at true (e + 1)
+not_quoted : (t : Text) (k : Token) → ((a e : ℕ) → k ≡ Quoted a e → ⊥) → quoted_of (next_of t (Some k)) ≡ none
+unfolding quoted_of next_of
+not_quoted t (Word a e) n = refl
+not_quoted t (Quoted a e) n = absurd (n a e refl)
+not_quoted t (Mark c e) n = refl
+not_quoted t End n = refl
+
+not_mark : (t : Text) (c : ℕ) (k : Token) → ((d e : ℕ) → k ≡ Mark d e → ⊥) → want_of (mark c) (next_of t (Some k)) ≡ none
+unfolding want_of next_of is_token only_if
+not_mark t c (Word a e) n = refl
+not_mark t c (Quoted a e) n = refl
+not_mark t c (Mark d e) n = absurd (n d e refl)
+not_mark t c End n = refl
+
+module _ (t : Text) (at : ℕ) (r : Found Token) (s : Reads t at (next_token (drop at t)) r) where
+  pub imp_bad : r ≡ None → imp (drop at t) ≡ none
   unfolding imp quoted_of next_of
-  imp_yes a e q =
-      let w = subst (ReadsWithin t at) q s.within in
-      let z : next_token (drop at t) ≡ token (quoted (part t a e)) (drop (e + 1) t) = sym s.is ∙ ap (next_of t) q in
-      answer_yes _ _ t at (e + 1) (record {
-        value = part t a e;
-        is = ap quoted_of z;
-        took = record { is = refl; span = record { some_bytes = w.1; inside = omega arith } };
-        from = omega arith;
-        inside = omega arith;
-      })
+  imp_bad q = ap quoted_of (sym s.is ∙ ap (next_of t) q)
 
-  no_imp : (R : Text → Type 0) (z : ℕ) → quoted_of (next_of t r) ≡ none → Answers imp R t at false z
-  unfolding imp
-  no_imp R z h = answer_no _ R t at z (ap quoted_of (sym s.is) ∙ h)
+  pub mark_bad : (c : ℕ) → r ≡ None → want (mark c) (drop at t) ≡ none
+  unfolding want want_of next_of
+  mark_bad c q = ap (want_of (mark c)) (sym s.is ∙ ap (next_of t) q)
 
-  pub imp_word : (R : Text → Type 0) (z a e : ℕ) → r ≡ Word a e → Answers imp R t at false z
-  unfolding quoted_of next_of
-  imp_word R z a e q = no_imp R z (ap (λ (x : Token). quoted_of (next_of t x)) q)
+  module _ (k : Token) (h : r ≡ Some k) where
+    next_is : next_token (drop at t) ≡ next_of t (Some k)
+    next_is = sym s.is ∙ ap (next_of t) h
 
-  pub imp_mark : (R : Text → Type 0) (z c e : ℕ) → r ≡ Mark c e → Answers imp R t at false z
-  unfolding quoted_of next_of
-  imp_mark R z c e q = no_imp R z (ap (λ (x : Token). quoted_of (next_of t x)) q)
+    -- an implementation
+    pub imp_yes : (a e : ℕ) → k ≡ Quoted a e → Got imp (IsWord (part t a e)) t at (e + 1)
+    unfolding imp quoted_of next_of
+    imp_yes a e q =
+        let w = quoted_within t at _ r s k h a e q in
+        let z : next_token (drop at t) ≡ token (quoted (part t a e)) (drop (e + 1) t) = next_is ∙ ap (λ x. next_of t (Some x)) q in
+        record {
+          value = part t a e;
+          is = ap quoted_of z;
+          took = record { is = refl; some_bytes = (let l = part_length t a e (omega arith) in omega arith) };
+          from = omega arith;
+          inside = omega arith;
+        }
 
-  pub imp_end : (R : Text → Type 0) (z : ℕ) → r ≡ End → Answers imp R t at false z
-  unfolding quoted_of next_of
-  imp_end R z q = no_imp R z (ap (λ (x : Token). quoted_of (next_of t x)) q)
+    pub imp_none : ((a e : ℕ) → k ≡ Quoted a e → ⊥) → imp (drop at t) ≡ none
+    unfolding imp
+    imp_none n = ap quoted_of next_is ∙ not_quoted t k n
 
-  pub imp_bad : (R : Text → Type 0) (z : ℕ) → r ≡ Bad → Answers imp R t at false z
-  unfolding quoted_of next_of
-  imp_bad R z q = no_imp R z (ap (λ (x : Token). quoted_of (next_of t x)) q)
+    -- the mark c
+    module _ (c d e : ℕ) (q : k ≡ Mark d e) where
+      mark_only : want (mark c) (drop at t) ≡ only_if (c =? d) (tt, drop e t)
+      unfolding want want_of next_of is_token
+      mark_only =
+          let z : next_token (drop at t) ≡ token (mark d) (drop e t) = next_is ∙ ap (λ x. next_of t (Some x)) q in
+          ap (want_of (mark c)) z
 
-  -- the mark c
-  pub mark_is : (c d e : ℕ) → r ≡ Mark d e → Answers (want (mark c)) Any t at (eqb d c) e
-  unfolding want want_of next_of is_token ◌=?◌
-  mark_is c d e q =
-      let w = subst (ReadsWithin t at) q s.within in
-      let z : next_token (drop at t) ≡ token (mark d) (drop e t) = sym s.is ∙ ap (next_of t) q in
-      answer_only (want (mark c)) Any t at e (eqb d c) tt (ap (want_of (mark c)) z ∙ ap (λ (b : Bool). only_if b (tt, drop e t)) (=?-turn c d))
-      (record {}) (omega arith) w.1
+      pub mark_yes : d ≡ c → Got (want (mark c)) Any t at e
+      unfolding only_if
+      mark_yes y =
+          let w = mark_within t at _ r s k h d e q in
+          record {
+            value = tt;
+            is = mark_only ∙ ap (λ (b : Bool). only_if b (tt, drop e t)) (=?-in c d (sym y));
+            took = record {};
+            from = omega arith;
+            inside = w.1;
+          }
 
-  no_mark : (c z : ℕ) → want_of (mark c) (next_of t r) ≡ none → Answers (want (mark c)) Any t at false z
-  unfolding want
-  no_mark c z h = answer_no _ Any t at z (ap (want_of (mark c)) (sym s.is) ∙ h)
+      pub mark_other : (d ≡ c → ⊥) → want (mark c) (drop at t) ≡ none
+      unfolding only_if
+      mark_other n = mark_only ∙ ap (λ (b : Bool). only_if b (tt, drop e t)) (fails _ (λ y. n (sym (=?-out c d y))))
 
-  pub mark_word : (c z a e : ℕ) → r ≡ Word a e → Answers (want (mark c)) Any t at false z
-  unfolding want_of next_of is_token only_if
-  mark_word c z a e q = no_mark c z (ap (λ (x : Token). want_of (mark c) (next_of t x)) q)
-
-  pub mark_quoted : (c z a e : ℕ) → r ≡ Quoted a e → Answers (want (mark c)) Any t at false z
-  unfolding want_of next_of is_token only_if
-  mark_quoted c z a e q = no_mark c z (ap (λ (x : Token). want_of (mark c) (next_of t x)) q)
-
-  pub mark_end : (c z : ℕ) → r ≡ End → Answers (want (mark c)) Any t at false z
-  unfolding want_of next_of
-  mark_end c z q = no_mark c z (ap (λ (x : Token). want_of (mark c) (next_of t x)) q)
-
-  pub mark_bad : (c z : ℕ) → r ≡ Bad → Answers (want (mark c)) Any t at false z
-  unfolding want_of next_of
-  mark_bad c z q = no_mark c z (ap (λ (x : Token). want_of (mark c) (next_of t x)) q)
+    pub mark_none : (c : ℕ) → ((d e : ℕ) → k ≡ Mark d e → ⊥) → want (mark c) (drop at t) ≡ none
+    unfolding want
+    mark_none c n = ap (want_of (mark c)) next_is ∙ not_mark t c k n
 
 -- ---- words
 
@@ -146,42 +146,65 @@ not_word_key w end e = refl
 not_word_key w bad e = refl
 
 -- by where the next token begins and the word there
-module _ (t : Text) (at : ℕ) (s : Skipped) (g : Skips t at s) where
-  pub name_open : (R : Text → Type 0) (z : ℕ) → s ≡ Open → Answers name R t at false z
+module _ (t : Text) (at : ℕ) (s : Found ℕ) (g : Skips t at s) where
+  pub name_open : s ≡ None → name (drop at t) ≡ none
   unfolding name
-  name_open R z e = answer_no _ R t at z (not_word_name _ (word_open t at s g e))
+  name_open e = not_word_name _ (word_open t at s g e)
 
-  pub key_open : (k z : ℕ) → s ≡ Open → Answers (want (key_at k)) Any t at false z
+  pub key_open : (k : ℕ) → s ≡ None → want (key_at k) (drop at t) ≡ none
   unfolding want key_at
-  key_open k z e = answer_no _ Any t at z (not_word_key _ _ (word_open t at s g e))
+  key_open k e = not_word_key _ _ (word_open t at s g e)
 
-  module _ (a : ℕ) (q : s ≡ To a) (w : Text) (p : w ≡ word_at (drop a t)) where
-    pub name_none : (R : Text → Type 0) (z : ℕ) → length w ≡ 0 → Answers name R t at false z
+  module _ (a : ℕ) (q : s ≡ Some a) (w : Text) (p : w ≡ word_at (drop a t)) where
+    pub name_none : length w ≡ 0 → name (drop at t) ≡ none
     unfolding name
-    name_none R z e = answer_no _ R t at z (not_word_name _ (word_none t at s g a q w p e))
+    name_none e = not_word_name _ (word_none t at s g a q w p e)
 
-    pub key_none : (k z : ℕ) → length w ≡ 0 → Answers (want (key_at k)) Any t at false z
+    pub key_none : (k : ℕ) → length w ≡ 0 → want (key_at k) (drop at t) ≡ none
     unfolding want key_at
-    key_none k z e = answer_no _ Any t at z (not_word_key _ _ (word_none t at s g a q w p e))
+    key_none k e = not_word_key _ _ (word_none t at s g a q w p e)
 
     module _ (n : length w ≡ 0 → ⊥) where
-      pub name_is : (b : Bool) → b ≡ name_word w → Answers name (PartOf t a (a + length w)) t at b (a + length w)
+      name_only : name (drop at t) ≡ only_if (name_word w) (w, drop (a + length w) t)
       unfolding name name_of
-      name_is b h =
-          let e = word_ends t at s g a q w p in
-          answer_only name (PartOf t a (a + length w)) t at (a + length w) b w
-          (ap name_of (word_next t at s g a q w p n) ∙ ap (λ (x : Bool). only_if x (w, drop (a + length w) t)) (sym h))
-          (record { is = word_part t at s g a q w p; span = record { some_bytes = omega (arith, n); inside = e.1 } })
-          (omega arith) e.1
+      name_only = ap name_of (word_next t at s g a q w p n)
 
-      pub key_is : (k : ℕ) (b : Bool) → b ≡ same w (name_at keywords k) → Answers (want (key_at k)) Any t at b (a + length w)
-      unfolding want want_of key_at is_token
-      key_is k b h =
+      pub name_yes : (b : Bool) → b ≡ name_word w → b ≡ true → Got name (IsWord w) t at (a + length w)
+      unfolding only_if
+      name_yes b h y =
           let e = word_ends t at s g a q w p in
-          answer_only (want (key_at k)) Any t at (a + length w) b tt
-          (ap (want_of (key_at k)) (word_next t at s g a q w p n)
-          ∙ ap (λ (x : Bool). only_if x (tt, drop (a + length w) t)) (same_turn (name_at keywords k) w ∙ sym h))
-          (record {}) (omega arith) e.1
+          record {
+            value = w;
+            is = name_only ∙ ap (λ (x : Bool). only_if x (w, drop (a + length w) t)) (sym h ∙ y);
+            took = record { is = refl; some_bytes = omega (arith, n) };
+            from = omega arith;
+            inside = e.1;
+          }
+
+      pub name_other : (b : Bool) → b ≡ name_word w → b ≡ false → name (drop at t) ≡ none
+      unfolding only_if
+      name_other b h y = name_only ∙ ap (λ (x : Bool). only_if x (w, drop (a + length w) t)) (sym h ∙ y)
+
+      key_only : (k : ℕ) → want (key_at k) (drop at t) ≡ only_if (same w (name_at keywords k)) (tt, drop (a + length w) t)
+      unfolding want want_of key_at is_token
+      key_only k = ap (want_of (key_at k)) (word_next t at s g a q w p n)
+          ∙ ap (λ (x : Bool). only_if x (tt, drop (a + length w) t)) (same_turn (name_at keywords k) w)
+
+      pub key_yes : (k j : ℕ) → j ≡ k → (b : Bool) → b ≡ same w (name_at keywords j) → b ≡ true → Got (want (key_at k)) Any t at (a + length w)
+      unfolding only_if
+      key_yes k j z b h y =
+          let e = word_ends t at s g a q w p in
+          record {
+            value = tt;
+            is = key_only k ∙ ap (λ (x : Bool). only_if x (tt, drop (a + length w) t)) (ap (λ (i : ℕ). same w (name_at keywords i)) (sym z) ∙ sym h ∙ y);
+            took = record {};
+            from = omega arith;
+            inside = e.1;
+          }
+
+      pub key_other : (k j : ℕ) → j ≡ k → (b : Bool) → b ≡ same w (name_at keywords j) → b ≡ false → want (key_at k) (drop at t) ≡ none
+      unfolding only_if
+      key_other k j z b h y = key_only k ∙ ap (λ (x : Bool). only_if x (tt, drop (a + length w) t)) (ap (λ (i : ℕ). same w (name_at keywords i)) (sym z) ∙ sym h ∙ y)
 
 -- ---- what stands next, read only if it is there
 

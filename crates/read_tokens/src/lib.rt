@@ -1,105 +1,89 @@
 // The tokens of a command read from a position of a text: a keyword, a mark, a name, an implementation. What an answer means is
-// specs/Readers.antt; what the readers of commands in the crates above collect is said beside it.
+// specs/Ahead.antt; what the readers of commands in the crates above collect is said beside it.
 #![tactic(auto)]
 
-ghost use Rattle.std.specs.Prelude.{◌≡◌, ◌+◌, ◌<◌, ◌≤◌, length};
+ghost use Rattle.std.specs.Prelude.{◌≡◌, ◌+◌, ◌<◌, ◌≤◌, drop, length, option_map};
 ghost use Rattle.text.specs.Bytes.{keywords, same};
 ghost use Rattle.text.specs.Tables.{name_at};
-ghost use Rattle.text.specs.Language.{ahead, imp, name, want};
+ghost use Rattle.text.specs.Language.{imp, name, want};
 ghost use Rattle.text.specs.Tokens.{mark};
 ghost use Rattle.words.specs.Keywords.{keyword_count};
-ghost use Rattle.read_tokens.specs.Readers.{Answers, Any, Got, PartOf, Told, key_at};
+ghost use Rattle.read_tokens.specs.Readers.{Any, key_at};
+ghost use Rattle.read_tokens.specs.Ahead.{Ends, Gives, IsWord, Passes, keyword_number};
 
-// A part of the text that is of the kind asked for, if `there`.
+mod reader;
+
+pub use reader::Reader;
+
+// The keywords, in the order of their table (words/specs/Keywords.antt).
 #[derive(Clone, Copy)]
-pub struct Part {
-    pub there: bool,
-    pub start: usize,
-    pub end: usize,
+pub enum Keyword {
+    Supplies,
+    Needs,
+    Choice,
+    End,
+    Standard,
+    Undefined,
+    Unused,
+    WhereUsed,
+    In,
+    Out,
+    Quit,
+    Spec,
+    Provides,
+    Std,
+    Requires,
+    AllOf,
+    Mod,
+    Impl,
+    Sys,
+    Use,
+    DelSpec,
+    DelMod,
+    DelSys,
+    Modvar,
+    Sysvar,
+    DelModvar,
+    DelSysvar,
+    Parts,
 }
 
-// A mark or a keyword that was asked for, and the position behind it.
-#[derive(Clone, Copy)]
-pub struct Step {
-    pub there: bool,
-    pub end: usize,
-}
-
-// The numbers of the keywords that stand within a command.
-pub const END: usize = 3;
-
-pub const PROVIDES: usize = 12;
-
-pub const STD: usize = 13;
-
-pub const REQUIRES: usize = 14;
-
-pub const IMPL: usize = 17;
-
-pub const USE: usize = 19;
-
-// ---- tokens
-
-// An implementation: the word in its quotes. The position behind it is the one behind the closing quote, `end + 1`.
-pub fn read_imp(text: &[u8], at: usize) -> Part
-    requires { at ≤ length text.now }
-    ensures { Answers imp (PartOf text.now result.start result.end) text.now at result.there (result.end + 1) }
-{
-    match words::next_token(text, at) {
-        words::Token::Quoted(a, e) => Part {
-            there: true,
-            start: a,
-            end: e,
-        },
-        words::Token::Word(_, _) => Part {
-            there: false,
-            start: at,
-            end: at,
-        },
-        words::Token::Mark(_, _) => Part {
-            there: false,
-            start: at,
-            end: at,
-        },
-        words::Token::End => Part {
-            there: false,
-            start: at,
-            end: at,
-        },
-        words::Token::Bad => Part {
-            there: false,
-            start: at,
-            end: at,
-        },
-    }
-}
-
-// The mark c.
-pub fn want_mark(text: &[u8], at: usize, c: u8) -> Step
-    requires { at ≤ length text.now }
-    ensures { Answers (want (mark c)) Any text.now at result.there result.end }
-{
-    match words::next_token(text, at) {
-        words::Token::Mark(d, e) => Step {
-            there: d == c,
-            end: e,
-        },
-        words::Token::Word(_, _) => Step {
-            there: false,
-            end: at,
-        },
-        words::Token::Quoted(_, _) => Step {
-            there: false,
-            end: at,
-        },
-        words::Token::End => Step {
-            there: false,
-            end: at,
-        },
-        words::Token::Bad => Step {
-            there: false,
-            end: at,
-        },
+impl Keyword {
+    // Its number among the keywords.
+    fn number(self) -> usize
+        ensures number { result ≡ keyword_number self }
+        ensures small { result < keyword_count }
+    {
+        match self {
+            Keyword::Supplies => 0,
+            Keyword::Needs => 1,
+            Keyword::Choice => 2,
+            Keyword::End => 3,
+            Keyword::Standard => 4,
+            Keyword::Undefined => 5,
+            Keyword::Unused => 6,
+            Keyword::WhereUsed => 7,
+            Keyword::In => 8,
+            Keyword::Out => 9,
+            Keyword::Quit => 10,
+            Keyword::Spec => 11,
+            Keyword::Provides => 12,
+            Keyword::Std => 13,
+            Keyword::Requires => 14,
+            Keyword::AllOf => 15,
+            Keyword::Mod => 16,
+            Keyword::Impl => 17,
+            Keyword::Sys => 18,
+            Keyword::Use => 19,
+            Keyword::DelSpec => 20,
+            Keyword::DelMod => 21,
+            Keyword::DelSys => 22,
+            Keyword::Modvar => 23,
+            Keyword::Sysvar => 24,
+            Keyword::DelModvar => 25,
+            Keyword::DelSysvar => 26,
+            Keyword::Parts => 27,
+        }
     }
 }
 
@@ -115,132 +99,146 @@ fn is_key(word: &[u8], k: usize) -> bool
     words::is_keyword(word, k)
 }
 
-// The keyword with the number k.
-pub fn want_key(text: &[u8], at: usize, k: usize) -> Step
-    requires at_in_bounds { at ≤ length text.now }
-    requires k_lt_keyword_count { k < keyword_count }
-    ensures { Answers (want (key_at k)) Any text.now at result.there result.end }
-{
-    let words::Skipped::To(a) = words::next_start(text, at) else {
-        return Step {
-            there: false,
-            end: at,
-        };
-    };
-    let word = words::word(text, a);
-    if word.len() == 0 {
-        return Step {
-            there: false,
-            end: at,
-        };
-    }
-    Step {
-        there: is_key(word, k),
-        end: a + word.len(),
-    }
-}
+// ---- tokens
 
-// Whether the keyword with the number k comes next; the position behind it if it does.
-pub fn pass_key(text: &[u8], at: usize, k: usize) -> Step
-    requires at_in_bounds { at ≤ length text.now }
-    requires k_lt_keyword_count { k < keyword_count }
-    ensures { Got (ahead (key_at k)) (Told result.there) text.now at result.end }
-{
-    let s = want_key(text, at, k);
-    if s.there {
-        return Step {
-            there: true,
-            end: s.end,
-        };
+impl<'a> Reader<'a> {
+    pub fn new(text: &'a [u8]) -> Reader<'a>
+        ensures text { result.text.now ≡ text.now }
+        ensures at { result.at ≡ 0 }
+    {
+        Reader { text, at: 0 }
     }
-    Step {
-        there: false,
-        end: at,
-    }
-}
 
-// Whether the mark c comes next; the position behind it if it does.
-pub fn pass_mark(text: &[u8], at: usize, c: u8) -> Step
-    requires { at ≤ length text.now }
-    ensures { Got (ahead (mark c)) (Told result.there) text.now at result.end }
-{
-    let s = want_mark(text, at, c);
-    if s.there {
-        return Step {
-            there: true,
-            end: s.end,
-        };
+    // The text from the position on.
+    pub fn rest(&self) -> &'a [u8]
+        ensures { result.now ≡ drop self.now.at self.now.text.now }
+    {
+        &self.text[self.at..]
     }
-    Step {
-        there: false,
-        end: at,
-    }
-}
 
-// A name.
-pub fn read_name(text: &[u8], at: usize) -> Part
-    requires { at ≤ length text.now }
-    ensures { Answers name (PartOf text.now result.start result.end) text.now at result.there result.end }
-{
-    let words::Skipped::To(a) = words::next_start(text, at) else {
-        return Part {
-            there: false,
-            start: at,
-            end: at,
-        };
-    };
-    let word = words::word(text, a);
-    if word.len() == 0 {
-        return Part {
-            there: false,
-            start: at,
-            end: at,
-        };
+    // The reader behind n bytes more.
+    pub fn behind(self, n: usize) -> Reader<'a>
+        requires { self.at + n ≤ length self.text.now }
+        ensures { (result.text ≡ self.entry.text) × (result.at ≡ self.entry.at + n) }
+    {
+        Reader {
+            text: self.text,
+            at: self.at + n,
+        }
     }
-    Part {
-        there: words::is_name_word(word),
-        start: a,
-        end: a + word.len(),
+
+    // A name.
+    pub fn name(&mut self) -> Option<&'a [u8]>
+        ensures { Gives name IsWord self.old self.new (option_map (λ w. w.now) result) }
+    {
+        let start = words::next_start(self.text, self.at)?;
+        let word = words::word(self.text, start);
+        if word.is_empty() || !words::is_name_word(word) {
+            return None;
+        }
+        self.at = start + word.len();
+        Some(word)
+    }
+
+    // An implementation: the word in its quotes. The position is then the one behind the closing quote.
+    pub fn imp(&mut self) -> Option<&'a [u8]>
+        ensures { Gives imp IsWord self.old self.new (option_map (λ w. w.now) result) }
+    {
+        let words::Token::Quoted(start, end) = words::next_token(self.text, self.at)? else {
+            return None;
+        };
+        self.at = end + 1;
+        Some(&self.text[start..end])
+    }
+
+    // The position behind the mark c, if this comes next.
+    fn mark_end(&self, c: u8) -> Option<usize>
+        ensures { Ends (want (mark c)) self.now result }
+    {
+        let words::Token::Mark(d, end) = words::next_token(self.text, self.at)? else {
+            return None;
+        };
+        if d != c {
+            return None;
+        }
+        Some(end)
+    }
+
+    // The position behind the keyword k, if this comes next.
+    fn key_end(&self, k: Keyword) -> Option<usize>
+        ensures { Ends (want (key_at (keyword_number k))) self.now result }
+    {
+        let start = words::next_start(self.text, self.at)?;
+        let word = words::word(self.text, start);
+        if word.is_empty() || !is_key(word, k.number()) {
+            return None;
+        }
+        Some(start + word.len())
+    }
+
+    // The mark c.
+    pub fn mark(&mut self, c: u8) -> Option<()>
+        ensures { Gives (want (mark c)) (λ _. Any) self.old self.new result }
+    {
+        self.at = self.mark_end(c)?;
+        Some(())
+    }
+
+    // The keyword k.
+    pub fn key(&mut self, k: Keyword) -> Option<()>
+        ensures { Gives (want (key_at (keyword_number k))) (λ _. Any) self.old self.new result }
+    {
+        self.at = self.key_end(k)?;
+        Some(())
+    }
+
+    // Whether the mark c comes next, which is then passed.
+    pub fn passes_mark(&mut self, c: u8) -> bool
+        ensures { Passes (mark c) self.old self.new result }
+    {
+        let Some(end) = self.mark_end(c) else {
+            return false;
+        };
+        self.at = end;
+        true
+    }
+
+    // Whether the keyword k comes next, which is then passed.
+    pub fn passes_key(&mut self, k: Keyword) -> bool
+        ensures { Passes (key_at (keyword_number k)) self.old self.new result }
+    {
+        let Some(end) = self.key_end(k) else {
+            return false;
+        };
+        self.at = end;
+        true
     }
 }
 
 // ---- what is collected: names put into a table
 
-// The place of a name in its table, or 0 where there was no room for it.
-#[derive(Clone, Copy)]
-pub struct Entry {
-    pub number: usize,
-    pub room: bool,
-}
-
-// A name that was read and put into its table, if `there`: the position behind it and its place.
+// A name that was read and put into its table: its place, or 0 where there was no room for it.
 #[derive(Clone, Copy)]
 pub struct Taken {
-    pub there: bool,
-    pub end: usize,
     pub number: usize,
     pub room: bool,
 }
 
 // ---- facilities
 
-// Facilities that were read, if `there`: the position behind them, the set with their numbers, and whether there was room.
+// Facilities that were read: the set with their numbers, and whether there was room.
 #[derive(Clone, Copy)]
 pub struct Facilities {
-    pub there: bool,
-    pub end: usize,
     pub set: u64,
     pub room: bool,
 }
 
 // ---- a specification
 
-// Versions with the facilities that each requires, if `there`; whether one, and another, carries "std", and which; and
-// whether there was room for the names of versions (`vers`) and of facilities (`facs`).
+// Versions with the facilities that each requires; whether one, and another, carries "std", and which; and whether there was room for
+// the names of versions (`vers`) and of facilities (`facs`).
 #[derive(Clone, Copy)]
 pub struct SpecVersions {
-    pub there: bool,
-    pub end: usize,
     pub sets: command_lists::Sets,
     pub found: bool,
     pub twice: bool,
@@ -249,11 +247,9 @@ pub struct SpecVersions {
     pub facs: bool,
 }
 
-// What "spec" asks for, if it is of the language (`there`): by the numbers in the tables with its new names, if there was room for them.
+// What "spec" asks for: by the numbers in the tables with its new names, if there was room for them.
 #[derive(Clone, Copy)]
 pub struct SpecRequest {
-    pub there: bool,
-    pub end: usize,
     pub component: usize,
     pub provided: u64,
     pub versions: command_lists::Sets,
@@ -263,12 +259,10 @@ pub struct SpecRequest {
 
 // ---- a module
 
-// Versions with their implementations, if `there`, and whether there was room for the names of versions (`vers`) and for the
-// implementations (`impls`).
+// Versions with their implementations, and whether there was room for the names of versions (`vers`) and for the implementations
+// (`impls`).
 #[derive(Clone, Copy)]
 pub struct ModVersions {
-    pub there: bool,
-    pub end: usize,
     pub numbers: command_lists::Numbers,
     pub vers: bool,
     pub impls: bool,
@@ -277,8 +271,6 @@ pub struct ModVersions {
 // What "mod" asks for.
 #[derive(Clone, Copy)]
 pub struct ModRequest {
-    pub there: bool,
-    pub end: usize,
     pub component: usize,
     pub versions: command_lists::Numbers,
     pub room: bool,
@@ -286,11 +278,9 @@ pub struct ModRequest {
 
 // ---- a component with a version
 
-// A component and a version, if `there`: their numbers, and whether there was room for each.
+// A component and a version: their numbers, and whether there was room for each.
 #[derive(Clone, Copy)]
 pub struct PairTaken {
-    pub there: bool,
-    pub end: usize,
     pub component: usize,
     pub version: usize,
     pub comps: bool,
@@ -300,8 +290,6 @@ pub struct PairTaken {
 // What "modvar" asks for.
 #[derive(Clone, Copy)]
 pub struct ModvarRequest {
-    pub there: bool,
-    pub end: usize,
     pub component: usize,
     pub version: usize,
     pub required: u64,
@@ -311,11 +299,9 @@ pub struct ModvarRequest {
 
 // ---- a composition
 
-// Members, if `there`, and whether there was room for the names of components (`comps`) and of versions (`vers`).
+// Members, and whether there was room for the names of components (`comps`) and of versions (`vers`).
 #[derive(Clone, Copy)]
 pub struct Members {
-    pub there: bool,
-    pub end: usize,
     pub composition: command_lists::Composition,
     pub comps: bool,
     pub vers: bool,
@@ -324,8 +310,6 @@ pub struct Members {
 // What "sysvar" asks for.
 #[derive(Clone, Copy)]
 pub struct SysvarRequest {
-    pub there: bool,
-    pub end: usize,
     pub component: usize,
     pub version: usize,
     pub composition: command_lists::Composition,
@@ -334,21 +318,16 @@ pub struct SysvarRequest {
 
 // ---- a system
 
-// Usable components, if `there`, and whether there was room for their names.
+// Usable components, and whether there was room for their names.
 #[derive(Clone, Copy)]
 pub struct UsableNames {
-    pub there: bool,
-    pub end: usize,
     pub usable: command_lists::Usable,
     pub comps: bool,
 }
 
-// Versions with their compositions, if `there`, and whether there was room for the names of components (`comps`) and of versions
-// (`vers`).
+// Versions with their compositions, and whether there was room for the names of components (`comps`) and of versions (`vers`).
 #[derive(Clone, Copy)]
 pub struct SysVersions {
-    pub there: bool,
-    pub end: usize,
     pub compositions: command_lists::Compositions,
     pub comps: bool,
     pub vers: bool,
@@ -357,8 +336,6 @@ pub struct SysVersions {
 // What "sys" asks for.
 #[derive(Clone, Copy)]
 pub struct SysRequest {
-    pub there: bool,
-    pub end: usize,
     pub component: usize,
     pub usable: command_lists::Usable,
     pub versions: command_lists::Compositions,

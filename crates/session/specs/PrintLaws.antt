@@ -1,11 +1,14 @@
 -- What the program prints, whether text and listing fit or not.
-use Rattle.std.specs.Prelude.{List, [], ◌++◌, ◌∷◌, ◌<◌, ◌≤◌, ℕ}
+use Rattle.std.specs.Prelude.{Err, List, Ok, Result, [], ◌++◌, ◌∷◌, ◌<◌, ◌≤◌, ℕ}
 use Rattle.std.proofs.Math.Logic.{inl, inr}
 use Rattle.std.proofs.Common.{◌∙◌}
-use Rattle.std.proofs.Math.Path.{◌≡◌, ap, sym}
+use Rattle.std.proofs.Math.Path.{◌≡◌, ap, refl, sym}
 use native.Mathlib.Omega.{arith}
 use Rattle.std.proofs.Math.ListN.{drop, length, length-append, take}
 use Rattle.std.proofs.Math.Seq.{take-append_seam}
+use Rattle.refusal.specs.NumberLaws.{no_number_0}
+use Rattle.refusal.specs.Numbers.{code, found}
+use Rattle.refusal.specs.declared.Refusal.{Refusal}
 use Rattle.sets.specs.TestLaws.{and-false, and-true, bool?, fails, if-false, if-true, ≤?_in, ≤?_out}
 use Rattle.sets.specs.Tests.{◌&◌, ◌≤?◌}
 use Rattle.svcd.specs.Reached.{answer_of, length_of}
@@ -47,3 +50,12 @@ module _ (t : Text) where
           ))
       | inr y ↦ (let w : ◌≡◌ {A = ℕ} 22 0 = sym (if-false _ _ _ y) ∙ sym e ∙ z in absurd (omega arith))
     ]
+
+    -- by what the library's session gives back
+    module _ {r : Result ℕ Refusal} (e : code r ≡ answer_of old t) where
+      pub printed_ok : {n : ℕ} {new : List ℕ} → new ≡ slice_after old t → found r ≡ length_of old t → r ≡ Ok n
+          → (n ≤ length new) × (take n new ≡ prints t)
+      printed_ok s d o = printed s (sym (ap (λ x. code x) o) ∙ e) (sym (ap (λ x. found x) o) ∙ d) refl
+
+      pub printed_22 : {x : Refusal} → r ≡ Err x → bytes "0,22\n" ≡ prints t
+      printed_22 {x} o = listing_too_long (sym (ap (λ y. code y) o) ∙ e) (no_number_0 x)

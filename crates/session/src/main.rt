@@ -30,11 +30,10 @@ fn print(text: &[u8], out: &mut [u8]) -> usize
     if PROGRAM_BYTES < text.len() {
         return put_22(out);
     }
-    let s = svcd::session(text, out);
-    if s.answer != 0 {
-        return put_22(out);
+    match svcd::session(text, out).answer {
+        Ok(len) => len,
+        Err(_) => put_22(out),
     }
-    s.len
 }
 
 // A byte more than the program takes tells a text that is too long.

@@ -1,8 +1,6 @@
 -- What an adding command of a session's text comes to, the same for all five.
-use Rattle.std.specs.Prelude.{Bool, true, ◌≡◌, ℕ}
+use Rattle.std.specs.Prelude.{Bool, true, ◌≡◌}
 use Rattle.model.specs.Commands.{Command}
-use Rattle.sets.specs.Tests.{if?◌then◌else◌}
-use Rattle.session_state.specs.declared.Decision.{Decision}
 use Rattle.text.specs.Language.{Said}
 use Rattle.text.specs.Session.{State, add, carry}
 use Rattle.text.specs.Tables.{Tables, entered, fits}
@@ -16,11 +14,3 @@ pub record Adds (t t' : Tables) (room : Bool) (P : Command → Type 0) (x : Said
   pub placed : room ≡ fits (entered t names)
   pub tables : room ≡ true → t' ≡ entered t names
   pub asks : room ≡ true → P (numbered t')
-
--- "Text questions come before all others. Is the command of the language? no: 23 .. Adding commands: is there a place for each new name?
--- no: 24." The decision d where one of the two has its no: `there` says that it is not the first. Then e is the command's end; else it
--- was read from position `at` on.
-pub record Unasked (there : Bool) (at e : ℕ) (d : Decision) : Type 0 where
-  pub there_is : d.there ≡ there
-  pub end_is : d.end ≡ (if? there then e else at)
-  pub answer_is : d.answer ≡ (if? there then 24 else 0)

@@ -1,39 +1,31 @@
 -- Laws of the adding commands: one for each way out of the code.
-use Rattle.std.specs.Prelude.{Bool, ◌&&◌, false, true, not as notᵇ, List, ◌≢◌, ◌≡◌, suc, zero, ℕ}
-use Rattle.std.proofs.Common.{◌∙◌, ap₂, subst, sym}
+use Rattle.std.specs.Prelude.{Bool, Result, false, true, ⊤, not as notᵇ, is_ok, List, ◌≢◌, ◌≡◌, suc, zero, ℕ}
+use Rattle.std.specs.Prelude as result
+use Rattle.std.proofs.Common.{◌∙◌, ap₂, sym}
 use Rattle.std.proofs.Math.Path.{ap, refl}
 use Rattle.std.proofs.lemmas.Bool.{not-false, not-true}
 use Rattle.book.specs.Plain.{plain_of}
 use Rattle.command_outcome.specs.OutcomeLaws.{step_right}
 use Rattle.command_outcome.specs.Outcome.{Called}
 use Rattle.read_tokens.specs.Entering.{Kept}
-use Rattle.read_tokens.specs.Readers.{Answers}
-use Rattle.read_tokens.specs.ProductionLaws.{at_end}
+use Rattle.read_tokens.specs.SequenceLaws.{Read}
+use Rattle.read_tokens.specs.declared.reader.Reader.{Reader}
+use Rattle.refusal.specs.NumberLaws.{no_number_0}
+use Rattle.refusal.specs.Numbers.{code}
+use Rattle.refusal.specs.declared.Refusal.{Refusal}
 use Rattle.model.specs.Book.{Book, components, facilities, implementations, versions}
 use Rattle.model.specs.Commands.{Command}
 use Rattle.names.specs.Stored.{tables_of}
 use Rattle.book_rules.specs.Test.{passes}
-use Rattle.sets.specs.Tests.{◌&◌}
-use Rattle.sets.specs.TestLaws.{and_l, and_r, and-true, clash, if-false, if-true}
-use Rattle.session_state.specs.Carried.{Decides, Undecided}
-use Rattle.session_state.specs.CarriedLaws.{answers_as, told_next, was_decided}
-use Rattle.session_state.specs.State.{Ready, state_of}
-use Rattle.session_state.specs.declared.Decision.{Decision}
-use Rattle.text.specs.Bytes.{Text}
-use Rattle.text.specs.Language.{Reader, Said}
+use Rattle.sets.specs.TestLaws.{clash, if-false, if-true}
+use Rattle.session_state.specs.Carried.{Decides}
+use Rattle.session_state.specs.CarriedLaws.{gives_as, told_next}
+use Rattle.session_state.specs.Ready.{Ready}
+use Rattle.session_state.specs.State.{state_of}
+use Rattle.text.specs.Language.{Reader as Production, Said}
 use Rattle.text.specs.Session.{State, add, carry, decided, told}
 use Rattle.text.specs.Tables.{Tables}
-use Rattle.session_add.specs.Adding.{Adds, Unasked}
-
--- ---- the ways out of unasked
-
-pub unasked_unread : (at e : ℕ) (there : Bool) → notᵇ there ≡ true → Unasked there at e (record { there = false; end = at; answer = 0 })
-unasked_unread at e there h =
-    let z = not-true there h in record { there_is = sym z; end_is = sym (if-false _ _ _ z); answer_is = sym (if-false _ _ _ z) }
-
-pub unasked_no_place : (at e : ℕ) (there : Bool) → notᵇ there ≡ false → Unasked there at e (record { there = true; end = e; answer = 24 })
-unasked_no_place at e there h =
-    let y = not-false there h in record { there_is = sym y; end_is = sym (if-true _ _ _ y); answer_is = sym (if-true _ _ _ y) }
+use Rattle.session_add.specs.Adding.{Adds}
 
 -- ---- a command that was asked its questions
 
@@ -81,60 +73,38 @@ module _ (s n c v f i c' v' f' i' : List ℕ) (room : Bool) (P : Command → Typ
 
 -- ---- the ways out of the five commands
 
--- of two tests that do not both pass, the second fails where the first passes
-second_no : (a b : Bool) → a ≡ true → notᵇ (a && b) ≡ true → b ≡ false
-unfolding ◌&◌
-second_no a b t h = sym (and-true a b t) ∙ not-true (a && b) h
+code_accepted : (a : Result ⊤ Refusal) → is_ok a ≡ true → code a ≡ 0
+code_accepted (result.Ok x) e = refl
+code_accepted (result.Err r) e = clash e refl
 
-module _ (s n c v f i : List ℕ) (before : Ready s n c v f i) (p : Reader Said) (t : Text) (at e : ℕ) (there : Bool) (Q : Said → Type 0)
-    (read : Answers p Q t at there e) where
-  module _ (c' v' f' i' : List ℕ) (room : Bool) (P : Command → Type 0)
-      (adds : (x : Said) → Q x → Adds (tables_of c v f i) (tables_of c' v' f' i') room P x) where
-    pub way_unasked : notᵇ (there && room) ≡ true → (d : Decision) → Unasked there at e d → Ready s n c v f i
-        × (Answers p (Decides (state_of s n c v f i) (state_of s n c v f i) d.answer) t at d.there d.end
-        × Undecided at (state_of s n c v f i) (state_of s n c v f i) d)
-    way_unasked h d u = (before, (by there refl, none))
-      where
-        none : Undecided at (state_of s n c v f i) (state_of s n c v f i) d
-        none = record {
-          end = λ z. u.end_is ∙ if-false _ _ _ (sym u.there_is ∙ z);
-          answer = λ z. u.answer_is ∙ if-false _ _ _ (sym u.there_is ∙ z);
-          state = λ z. refl;
-        }
+code_refused : (a : Result ⊤ Refusal) → is_ok a ≡ false → code a ≢ 0
+code_refused (result.Ok x) e = clash refl e
+code_refused (result.Err r) e = no_number_0 r
 
-        by : (b : Bool) → there ≡ b → Answers p (Decides (state_of s n c v f i) (state_of s n c v f i) d.answer) t at d.there d.end
-        by true y =
-            subst (λ (m : ℕ). Answers p (Decides (state_of s n c v f i) (state_of s n c v f i) m) t at d.there d.end) (sym (u.answer_is ∙ if-true _ _ _ y))
-            (at_end (u.there_is ∙ y) (u.end_is ∙ if-true _ _ _ y)
-            (answers_as p Q _ t at e there read y (λ x q. no_place s n c v f i c' v' f' i' room P x (adds x q) (second_no there room y h))))
-        by false z = record { yes = λ y. clash (sym u.there_is ∙ y) z; no = λ _. read.no z }
+module _ {s n c v f i : List ℕ} (before : Ready s n c v f i) {p : Production Said} (r r' : Reader) {Q : Said → Type 0} (read : Read p Q r r')
+    (c' v' f' i' : List ℕ) {room : Bool} {P : Command → Type 0}
+    (adds : (x : Said) → Q x → Adds (tables_of c v f i) (tables_of c' v' f' i') room P x) where
+  pub way_no_place : notᵇ room ≡ true → Read p (Decides (state_of s n c v f i) (state_of s n c v f i) 24) r r'
+  way_no_place h = gives_as r r' read (λ x q. no_place s n c v f i c' v' f' i' room P x (adds x q) (not-true room h))
 
-    module _ (h : notᵇ (there && room) ≡ false) (a : ℕ) (s' n' : List ℕ) (called : (k : Command) → P k → Called s n k a s' n') where
-      is_there_lem : there ≡ true
-      unfolding ◌&◌
-      is_there_lem = and_l there room (not-false (there && room) h)
+  module _ (h : notᵇ room ≡ false) (a : Result ⊤ Refusal) {s' n' : List ℕ} (called : (k : Command) → P k → Called s n k (code a) s' n') where
+    way_passes : passes s' n' ≡ true
+    way_passes =
+        let g = read.0 in
+        outcome_passes s n c v f i c' v' f' i' room P g.value (adds g.value g.took) (not-false room h) before.passes (code a) s' n' called
 
-      has_room : room ≡ true
-      unfolding ◌&◌
-      has_room = and_r there room (not-false (there && room) h)
+    -- the Book may have changed, and the tables are as they were
+    pub ready_asked : Ready s' n' c v f i
+    ready_asked = record { passes = way_passes; comps = before.comps; vers = before.vers; facs = before.facs; impls = before.impls }
 
-      way_passes : passes s' n' ≡ true
-      way_passes =
-          let g = read.yes is_there_lem in
-          outcome_passes s n c v f i c' v' f' i' room P g.value (adds g.value g.took) has_room before.passes a s' n' called
+    -- the tables are changed as well
+    pub ready_named : Kept components c' → Kept versions v' → Kept facilities f' → Kept implementations i' → Ready s' n' c' v' f' i'
+    ready_named kc kv kf ki = record { passes = way_passes; comps = kc; vers = kv; facs = kf; impls = ki }
 
-      pub way_refused : a ≢ 0 → Ready s' n' c v f i
-          × (Answers p (Decides (state_of s n c v f i) (state_of s' n' c v f i) a) t at true e
-          × Undecided at (state_of s n c v f i) (state_of s' n' c v f i) (record { there = true; end = e; answer = a }))
-      way_refused d = (
-        record { passes = way_passes; comps = before.comps; vers = before.vers; facs = before.facs; impls = before.impls },
-        (answers_as p Q _ t at e there read is_there_lem (λ x q. not_accepted s n c v f i c' v' f' i' room P x (adds x q) has_room before.passes a s' n' called d), was_decided),
-      )
+    pub way_refused : is_ok a ≡ false → Read p (Decides (state_of s n c v f i) (state_of s' n' c v f i) (code a)) r r'
+    way_refused d = gives_as r r' read
+        (λ x q. not_accepted s n c v f i c' v' f' i' room P x (adds x q) (not-false room h) before.passes (code a) s' n' called (code_refused a d))
 
-      pub way_accepted : Kept components c' → Kept versions v' → Kept facilities f' → Kept implementations i' → a ≡ 0 → Ready s' n' c' v' f' i'
-          × (Answers p (Decides (state_of s n c v f i) (state_of s' n' c' v' f' i') a) t at true e
-          × Undecided at (state_of s n c v f i) (state_of s' n' c' v' f' i') (record { there = true; end = e; answer = a }))
-      way_accepted kc kv kf ki d = (
-        record { passes = way_passes; comps = kc; vers = kv; facs = kf; impls = ki },
-        (answers_as p Q _ t at e there read is_there_lem (λ x q. accepted s n c v f i c' v' f' i' room P x (adds x q) has_room before.passes a s' n' called d), was_decided),
-      )
+    pub way_accepted : is_ok a ≡ true → Read p (Decides (state_of s n c v f i) (state_of s' n' c' v' f' i') (code a)) r r'
+    way_accepted d = gives_as r r' read
+        (λ x q. accepted s n c v f i c' v' f' i' room P x (adds x q) (not-false room h) before.passes (code a) s' n' called (code_accepted a d))

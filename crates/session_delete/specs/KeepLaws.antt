@@ -1,7 +1,7 @@
 -- One of the ten commands, called on the Book of a session.
-use Rattle.std.specs.Prelude.{true, ◌⊎◌, ◌≡◌, refl, suc, zero, ℕ}
+use Rattle.std.specs.Prelude.{true, ◌≡◌, refl, suc, zero, ℕ}
 use mathlib.Core.List.{List}
-use Rattle.std.proofs.Common.{inl, inr, ◌∙◌, subst, sym, arith}
+use Rattle.std.proofs.Common.{◌∙◌, sym}
 use Rattle.std.proofs.Math.Path.{ap, ap₂}
 use Rattle.book.specs.Plain.{plain_of}
 use Rattle.command_outcome.specs.Outcome.{Called, answered}
@@ -13,30 +13,17 @@ use Rattle.book_rules.specs.Test.{passes}
 use Rattle.sets.specs.TestLaws.{if-true}
 use Rattle.session_state.specs.Carried.{Decides}
 use Rattle.session_state.specs.CarriedLaws.{told_next}
-use Rattle.session_state.specs.State.{Ready, state_of}
+use Rattle.session_state.specs.Ready.{Ready}
+use Rattle.session_state.specs.State.{state_of}
 use Rattle.text.specs.Language.{Said}
 use Rattle.text.specs.Session.{State, carry, changed, decided, refused, told}
 
 -- ---- what was called
 
-zero? : (a : ℕ) → (a ≡ 0) ⊎ (a ≡ 0 → ⊥)
-zero? zero = inl refl
-zero? (suc a) = inr (λ e. omega (arith, e))
-
 module _ (s n : List ℕ) (k : Command) (a : ℕ) (s' n' : List ℕ) (h : Called s n k a s' n') where
-  called_passes : passes s n ≡ true → passes s' n' ≡ true
-  called_passes p = elim (zero? a) [
-    | inl z ↦ (h.accepted z).1
-    | inr z ↦ ap₂ passes (h.refused z).0 (h.refused z).1 ∙ p
-  ]
-
   called_answer : passes s n ≡ true → a ≡ answer (plain_of s n) k
   unfolding answered
   called_answer p = h.answer_is ∙ if-true _ _ _ p
-
--- of the same command
-pub called_as : (s n : List ℕ) (j k : Command) (a : ℕ) (s' n' : List ℕ) → j ≡ k → Called s n j a s' n' → Called s n k a s' n'
-called_as s n j k a s' n' e h = subst (λ (x : Command). Called s n x a s' n') e h
 
 -- ---- one of the ten commands in a session
 
@@ -55,15 +42,6 @@ decided_same zero x y e = ap changed (e refl)
 decided_same (suc m) x y e = refl
 
 module _ (s n c v f i : List ℕ) (ready : Ready s n c v f i) (k : Command) (a : ℕ) (s' n' : List ℕ) (h : Called s n k a s' n') where
-  pub ready_on : Ready s' n' c v f i
-  ready_on = record {
-    passes = called_passes s n k a s' n' h ready.passes;
-    comps = ready.comps;
-    vers = ready.vers;
-    facs = ready.facs;
-    impls = ready.impls;
-  }
-
   abbrev holding : Book → State
   holding b = record { book = b; tables = tables_of c v f i }
 

@@ -1,106 +1,84 @@
 // The five commands of a session's text that take out, each read from behind its first word and carried out (specs/Removed.antt).
 #![tactic(auto)]
 
-ghost use Rattle.std.specs.Prelude.{◌≡◌, true, false, ◌*◌, ◌<◌, ◌≤◌, length};
+ghost use Rattle.std.specs.Prelude.{◌≡◌, true, ◌<◌, IfNone};
 ghost use Rattle.book.specs.Plain.{plain};
 ghost use Rattle.command_outcome.specs.Outcome.{Called};
-ghost use Rattle.read_tokens.specs.Readers.{Answers, Span};
-ghost use Rattle.names.specs.Stored.{table_of};
-ghost use Rattle.sets.specs.Answered.{answered};
+ghost use Rattle.read_tokens.specs.Ahead.{Gives};
 ghost use Rattle.read_command.specs.Forms.{removed, version_removed};
 ghost use Rattle.session_delete.specs.Removed.{component_answer, component_command, is_of_kind, pair_answer, version_answer, version_command};
 ghost use Rattle.book_rules.specs.Test as test;
-ghost use Rattle.session_state.specs.Carried.{Decides, Undecided};
-ghost use Rattle.session_state.specs.State.{IsReady, plain_state};
-ghost use Rattle.text.specs.Bytes.{short};
+ghost use Rattle.session_state.specs.Carried.{Decides};
+ghost use Rattle.session_state.specs.State.{plain_state};
 ghost use Rattle.text.specs.Language.{of_one, of_pair};
-ghost use Rattle.text.specs.Tables.{place};
-ghost use Rattle.words.specs.Reading.{part};
+ghost use Rattle.refusal.specs.Numbers.{code, number};
 
 use book::Book;
 use read_command::{Component, Version};
-use session_state::{Decision, State};
-
-// The place of the part of the text from a to e.
-fn place_of(names: &[u8], places: usize, text: &[u8], a: usize, e: usize) -> Option<usize>
-    requires names_len { length names.now ≡ places * 33 }
-    requires span { Span text.now a e }
-    requires e_value { short (part text.now a e) ≡ true }
-    ensures { answered result ≡ place (table_of places names.now) (part text.now a e) }
-{
-    names::lookup(names, places, words::part(text, a, e))
-}
+use read_tokens::Reader;
+use refusal::Refusal;
+use session_state::State;
 
 // ---- delspec, delmod, delsys
 
 // The answer for a component without a number.
-fn component_answer(kind: Component) -> usize
-    ensures { result ≡ component_answer kind }
+#[tactic(auto, unfolding(crate::specs::Removed::component_answer))]
+fn component_answer(kind: Component) -> Refusal
+    ensures { number result ≡ component_answer kind }
 {
     match kind {
-        Component::Spec => 4,
-        Component::Module => 6,
-        Component::System => 7,
+        Component::Spec => Refusal::NotSpecified,
+        Component::Module => Refusal::NoModule,
+        Component::System => Refusal::NoSystem,
     }
 }
 
 // The command of the component with the number c, carried out. It gives the answer.
-fn take_out(book: &mut Book, kind: Component, c: usize) -> usize
+#[tactic(auto, unfolding(crate::specs::Removed::component_command))]
+fn take_out(book: &mut Book, kind: Component, c: usize) -> Result<(), Refusal>
     requires { test.passes book.old.sets book.old.numbers ≡ true }
     ensures sets_kept { book.new.sets ≡ book.old.sets }
-    ensures called { Called book.old.sets book.old.numbers (component_command kind c) result book.new.sets book.new.numbers }
+    ensures called { Called book.old.sets book.old.numbers (component_command kind c) (code result) book.new.sets book.new.numbers }
 {
     match kind {
-        Component::Spec => command_delete::del_spec_in(book, c) as usize,
-        Component::Module => command_delete::del_mod_in(book, c) as usize,
-        Component::System => command_delete::del_sys_in(book, c) as usize,
+        Component::Spec => command_delete::del_spec_in(book, c),
+        Component::Module => command_delete::del_mod_in(book, c),
+        Component::System => command_delete::del_sys_in(book, c),
     }
 }
 
-// delspec, delmod, delsys of the name that is read from position `at` on.
-pub fn remove_component(state: &mut State, text: &[u8], at: usize, kind: Component) -> Decision
-    requires ready { IsReady state.old }
-    requires at_in_bounds { at ≤ length text.now }
-    ensures ready_2 { IsReady state.new }
-    ensures answers { Answers (of_one (removed kind)) (Decides (plain_state state.old) (plain_state state.new) result.answer)
-        text.now at result.there result.end }
-    ensures undecided { Undecided at (plain_state state.old) (plain_state state.new) result }
+// delspec, delmod, delsys of the name that is read where the reader stands.
+pub fn remove_component(
+    state: &mut State,
+    reader: &mut Reader<'_>,
+    kind: Component,
+) -> Option<Result<(), Refusal>>
+    ensures answers { Gives (of_one (removed kind)) (λ a. Decides (plain_state state.old) (plain_state state.new) (code a))
+        reader.old reader.new result }
+    ensures unread { IfNone result (plain_state state.new ≡ plain_state state.old) }
     ensures names_kept { state.new.names ≡ state.old.names }
 {
-    let w = read_command::read_one(text, at);
-    if !w.there {
-        return Decision {
-            there: false,
-            end: at,
-            answer: 0,
-        };
-    }
-    let Some(c) = place_of(&state.names.comps, 32, text, w.start, w.end) else {
-        return Decision {
-            there: true,
-            end: w.end,
-            answer: component_answer(kind),
-        };
+    let word = read_command::read_one(reader)?;
+    let Some(c) = names::lookup(&state.names.comps, 32, word) else {
+        return Some(Err(component_answer(kind)));
     };
-    Decision {
-        there: true,
-        end: w.end,
-        answer: take_out(&mut state.book, kind, c),
-    }
+    Some(take_out(&mut state.book, kind, c))
 }
 
 // ---- delmodvar, delsysvar
 
 // The answer for a pair whose component has no number.
-fn pair_answer(kind: Version) -> usize
-    ensures { result ≡ pair_answer kind }
+#[tactic(auto, unfolding(crate::specs::Removed::pair_answer))]
+fn pair_answer(kind: Version) -> Refusal
+    ensures { number result ≡ pair_answer kind }
 {
     match kind {
-        Version::Module => 6,
-        Version::System => 7,
+        Version::Module => Refusal::NoModule,
+        Version::System => Refusal::NoSystem,
     }
 }
 
+#[tactic(auto, unfolding(crate::specs::Removed::is_of_kind))]
 fn is_of_kind(book: &Book, kind: Version, c: usize) -> bool
     requires { c < 32 }
     ensures { result ≡ is_of_kind kind (plain book.now) c }
@@ -112,63 +90,46 @@ fn is_of_kind(book: &Book, kind: Version, c: usize) -> bool
 }
 
 // The answer for a version without a number, of the component c.
-fn version_answer(book: &Book, kind: Version, c: usize) -> usize
+fn version_answer(book: &Book, kind: Version, c: usize) -> Refusal
     requires { c < 32 }
-    ensures { result ≡ version_answer kind (plain book.now) c }
+    ensures { number result ≡ version_answer kind (plain book.now) c }
 {
     if is_of_kind(book, kind, c) {
-        return 10;
+        return Refusal::NoVersion;
     }
     pair_answer(kind)
 }
 
 // The command of version v of the component c, carried out. It gives the answer.
-fn take_version_out(book: &mut Book, kind: Version, c: usize, v: usize) -> usize
+#[tactic(auto, unfolding(crate::specs::Removed::version_command))]
+fn take_version_out(book: &mut Book, kind: Version, c: usize, v: usize) -> Result<(), Refusal>
     requires { test.passes book.old.sets book.old.numbers ≡ true }
     ensures sets_kept { book.new.sets ≡ book.old.sets }
-    ensures called { Called book.old.sets book.old.numbers (version_command kind c v) result book.new.sets book.new.numbers }
+    ensures called { Called book.old.sets book.old.numbers (version_command kind c v) (code result) book.new.sets book.new.numbers }
 {
     match kind {
-        Version::Module => command_delete::del_modvar_in(book, c, v) as usize,
-        Version::System => command_delete::del_sysvar_in(book, c, v) as usize,
+        Version::Module => command_delete::del_modvar_in(book, c, v),
+        Version::System => command_delete::del_sysvar_in(book, c, v),
     }
 }
 
-// delmodvar, delsysvar of the two names that are read from position `at` on.
-pub fn remove_version(state: &mut State, text: &[u8], at: usize, kind: Version) -> Decision
-    requires ready { IsReady state.old }
-    requires at_in_bounds { at ≤ length text.now }
-    ensures ready_2 { IsReady state.new }
-    ensures answers { Answers (of_pair (version_removed kind)) (Decides (plain_state state.old) (plain_state state.new) result.answer)
-        text.now at result.there result.end }
-    ensures undecided { Undecided at (plain_state state.old) (plain_state state.new) result }
+// delmodvar, delsysvar of the two names that are read where the reader stands.
+pub fn remove_version(
+    state: &mut State,
+    reader: &mut Reader<'_>,
+    kind: Version,
+) -> Option<Result<(), Refusal>>
+    ensures answers { Gives (of_pair (version_removed kind)) (λ a. Decides (plain_state state.old) (plain_state state.new) (code a))
+        reader.old reader.new result }
+    ensures unread { IfNone result (plain_state state.new ≡ plain_state state.old) }
     ensures names_kept { state.new.names ≡ state.old.names }
 {
-    let p = read_command::read_pair(text, at);
-    if !p.there {
-        return Decision {
-            there: false,
-            end: at,
-            answer: 0,
-        };
-    }
-    let Some(c) = place_of(&state.names.comps, 32, text, p.start, p.end) else {
-        return Decision {
-            there: true,
-            end: p.to,
-            answer: pair_answer(kind),
-        };
+    let pair = read_command::read_pair(reader)?;
+    let Some(c) = names::lookup(&state.names.comps, 32, pair.component) else {
+        return Some(Err(pair_answer(kind)));
     };
-    let Some(v) = place_of(&state.names.vers, 64, text, p.from, p.to) else {
-        return Decision {
-            there: true,
-            end: p.to,
-            answer: version_answer(&state.book, kind, c),
-        };
+    let Some(v) = names::lookup(&state.names.vers, 64, pair.version) else {
+        return Some(Err(version_answer(&state.book, kind, c)));
     };
-    Decision {
-        there: true,
-        end: p.to,
-        answer: take_version_out(&mut state.book, kind, c, v),
-    }
+    Some(take_version_out(&mut state.book, kind, c, v))
 }

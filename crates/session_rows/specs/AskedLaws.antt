@@ -1,19 +1,19 @@
 -- Queries by names: a law for each way out of the code.
-use Rattle.std.specs.Prelude.{Bool, not, List, [], ◌≡◌, ◌<◌, ◌≤◌, ℕ, length}
+use Rattle.std.specs.Prelude.{Bool, List, [], ◌≡◌, ◌<◌, ℕ}
 use Rattle.std.proofs.Math.Bool.{false, true}
 use Rattle.std.proofs.Math.Option.{Option, none, some}
 use Rattle.std.proofs.Common.{◌∙◌, subst, sym, arith}
 use Rattle.std.proofs.Math.Path.{ap, ap₂, refl}
-use Rattle.std.proofs.lemmas.Bool.{not-false, not-true}
 use Rattle.book.specs.Plain.{plain_of}
 use Rattle.read_command.specs.Choices.{ChoiceAsked}
-use Rattle.read_tokens.specs.Readers.{Answers}
 use Rattle.read_command.specs.Words.{OneSaid, PairSaid}
 use Rattle.read_command.specs.declared.Known.{Known}
-use Rattle.read_command.specs.declared.Parts.{Parts as PairRead}
-use Rattle.write_bytes.specs.Room.{Puts}
-use Rattle.write_bytes.specs.RoomLaws.{puts_as}
-use Rattle.write_bytes.specs.declared.Room.{Room}
+use Rattle.read_command.specs.declared.Pair.{Pair}
+use Rattle.read_tokens.specs.SequenceLaws.{Read}
+use Rattle.read_tokens.specs.declared.reader.Reader.{Reader}
+use Rattle.write_bytes.specs.Writes.{Writes}
+use Rattle.write_bytes.specs.WritesLaws.{writes_as}
+use Rattle.write_bytes.specs.declared.writer.Writer.{Writer}
 use Rattle.model.specs.Book.{components, facilities, specified, versions}
 use Rattle.model.specs.Lists.{every, set_of}
 use Rattle.model.specs.Maps.{is_some}
@@ -26,18 +26,17 @@ use Rattle.std.specs.Prelude.{None, Some}
 use Rattle.sets.specs.Sets.{bit}
 use Rattle.sets.specs.TestLaws.{if-false, if-true}
 use Rattle.sets.specs.Tests.{if?◌then◌else◌}
-use Rattle.session_state.specs.Carried.{Carried}
-use Rattle.session_state.specs.CarriedLaws.{answers_as}
+use Rattle.session_state.specs.Carried.{CarriedBy}
+use Rattle.session_state.specs.CarriedLaws.{gives_as}
 use Rattle.session_state.specs.State.{state_of}
-use Rattle.text.specs.Bytes.{Text, short}
 use Rattle.text.specs.Language.{CHOICE, Name, Said, choice, of_one, of_pair}
 use Rattle.text.specs.Session.{State, afterwards, asked, carry, decimal, for_component, for_pair, lines, of_component, of_version, refused, row, rows}
 use Rattle.text.specs.Tables.{numbers, place}
 use Rattle.text_laws.specs.Places.{place_name}
-use Rattle.words.specs.Reading.{part}
 use Rattle.read_command.specs.Forms.{asked_of, asked_of_book, asked_of_version}
 use Rattle.session_rows.specs.Asked.{query_of, query_of_version}
-use Rattle.session_rows.specs.ShownLaws.{accepted_rows, answer_alone, asked_keeps, carried}
+use Rattle.session_rows.specs.RowLaws.{answer_alone}
+use Rattle.session_rows.specs.ShownLaws.{accepted_rows, asked_keeps, carried}
 use Rattle.read_command.specs.declared.OfBook.{OfBook}
 use Rattle.read_command.specs.declared.OfComponent.{OfComponent}
 use Rattle.read_command.specs.declared.OfComponent.TheVariants.{Supplies, Standard, WhereUsed}
@@ -46,15 +45,9 @@ use Rattle.read_command.specs.declared.OfVersion.TheVariants.{Needs, Parts}
 
 -- ---- a component
 
-module _ (f : Name → Said) (t : Text) (at a e : ℕ) (there : Bool) (r : Answers (of_one f) (OneSaid f t a e) t at there e) (n : not there ≡ false) where
-  pub one_span : (a ≤ e) × (e ≤ length t)
-  one_span = let s = (r.yes (not-false there n)).took.span in (omega (arith, s.some_bytes), s.inside)
-
-  pub one_short : (w : Text) → w ≡ part t a e → short w ≡ true
-  one_short w d = ap short d ∙ (r.yes (not-false there n)).took.fits
-
-  pub one_answers : (R : Said → Type 0) (w : Text) → w ≡ part t a e → R (f w) → Answers (of_one f) R t at true e
-  one_answers R w d x = answers_as (of_one f) (OneSaid f t a e) R t at e there r (not-false there n) (λ y q. subst R (ap f d ∙ sym q.is) x)
+pub one_answers : (f : Name → Said) (w : Name) (r s : Reader) → Read (of_one f) (OneSaid f w) r s → {R : Said → Type 0} → R (f w)
+    → Read (of_one f) R r s
+one_answers f w r s g {R = R} x = gives_as r s g (λ y q. subst R (sym q.is) x)
 
 module _ (i : ℕ) (k : OfComponent) where
   component_carry : (s : State) (w : Name) → carry s (asked_of k w) ≡ of_component s 4 w (λ c. asked s (query_of k c))
@@ -65,46 +58,33 @@ module _ (i : ℕ) (k : OfComponent) where
       by Standard = unfold carry asked_of query_of in refl
       by WhereUsed = unfold carry asked_of query_of in refl
 
-  module _ (s n c v f m : List ℕ) (w : Name) (g : Found ℕ) (e : answered g ≡ place (table_of components c) w) {p q : Room} {old new : List ℕ} where
+  module _ (s n c v f m : List ℕ) (w : Name) (g : Found ℕ) (e : answered g ≡ place (table_of components c) w) {old new : Writer} where
     -- "a name that stands in no table has no number: the component or version then doesn't exist"
-    pub component_unknown : g ≡ None → Puts (row i (decimal 4)) p q old new
-        → Carried i (state_of s n c v f m) (state_of s n c v f m) p q old new (asked_of k w)
+    pub component_unknown : g ≡ None → Writes (row i (decimal 4)) old new
+        → CarriedBy i (state_of s n c v f m) (state_of s n c v f m) old new (asked_of k w)
     unfolding state_of tables_of of_component for_component afterwards lines
     component_unknown h z =
         carried i (state_of s n c v f m) (asked_of k w) (refused 4)
         (component_carry (state_of s n c v f m) w
         ∙ ap (λ (o : Option ℕ). for_component 4 o (λ d. asked (state_of s n c v f m) (query_of k d))) (found_nothing g _ e h)) refl z
 
-    pub component_known : (d : ℕ) → g ≡ Some d → Puts (lines i (asked (state_of s n c v f m) (query_of k d))) p q old new
-        → Carried i (state_of s n c v f m) (state_of s n c v f m) p q old new (asked_of k w)
+    pub component_known : (d : ℕ) → g ≡ Some d → Writes (lines i (asked (state_of s n c v f m) (query_of k d))) old new
+        → CarriedBy i (state_of s n c v f m) (state_of s n c v f m) old new (asked_of k w)
     unfolding state_of tables_of of_component for_component
     component_known d h z =
         carried i (state_of s n c v f m) (asked_of k w) (asked (state_of s n c v f m) (query_of k d))
         (component_carry (state_of s n c v f m) w
         ∙ ap (λ (o : Option ℕ). for_component 4 o (λ d. asked (state_of s n c v f m) (query_of k d))) (found_at g d _ e h)) (asked_keeps _ _) z
 
-  pub component_kind : (k' : OfComponent) → k ≡ k' → (s : State) (c : ℕ) {p q : Room} {old new : List ℕ} → Puts (lines i (asked s (query_of k' c))) p q old new
-      → Puts (lines i (asked s (query_of k c))) p q old new
-  component_kind k' e s c {p} {q} {old} {new} z = subst (λ (j : OfComponent). Puts (lines i (asked s (query_of j c))) p q old new) (sym e) z
+  pub component_kind : (k' : OfComponent) → k ≡ k' → (s : State) (c : ℕ) {old new : Writer} → Writes (lines i (asked s (query_of k' c))) old new
+      → Writes (lines i (asked s (query_of k c))) old new
+  component_kind k' e s c {old} {new} z = subst (λ (j : OfComponent). Writes (lines i (asked s (query_of j c))) old new) (sym e) z
 
 -- ---- a version
 
-module _ (f : Name → Name → Said) (t : Text) (at : ℕ) (r : PairRead) (a : Answers (of_pair f) (PairSaid f t r) t at r.there r.to) (n : not r.there ≡ false) where
-  took : PairSaid f t r (a.yes (not-false r.there n)).value
-  took = (a.yes (not-false r.there n)).took
-
-  pub pair_component : (r.start ≤ r.end) × (r.end ≤ length t)
-  pair_component = let s = took.component in (omega (arith, s.some_bytes), s.inside)
-
-  pub pair_version : (r.from ≤ r.to) × (r.to ≤ length t)
-  pair_version = let s = took.version in (omega (arith, s.some_bytes), s.inside)
-
-  module _ (w x : Text) (ew : w ≡ part t r.start r.end) (ex : x ≡ part t r.from r.to) where
-    pub pair_short : (short w ≡ true) × (short x ≡ true)
-    pair_short = (ap short ew ∙ took.component_fits, ap short ex ∙ took.version_fits)
-
-    pub pair_answers : (R : Said → Type 0) → R (f w x) → Answers (of_pair f) R t at true r.to
-    pair_answers R y = answers_as (of_pair f) (PairSaid f t r) R t at r.to r.there a (not-false r.there n) (λ z q. subst R (ap₂ f ew ex ∙ sym q.is) y)
+pub pair_answers : (f : Name → Name → Said) (p : Pair) (r s : Reader) → Read (of_pair f) (PairSaid f p) r s → {R : Said → Type 0}
+    → R (f p.component.now p.version.now) → Read (of_pair f) R r s
+pair_answers f p r s g {R = R} x = gives_as r s g (λ y q. subst R (sym q.is) x)
 
 pub number_small : (n : ℕ) (bytes : List ℕ) (w : Name) (g : Found ℕ) (k : ℕ) → answered g ≡ place (table_of n bytes) w → g ≡ Some k → k < n
 number_small n bytes w g k e h =
@@ -127,21 +107,23 @@ module _ (i : ℕ) (k : OfVersion) where
         → carry now (asked_of_version k w x) ≡ for_pair 4 (specified (plain_of s n).specs) o o' (λ d u. asked now (query_of_version k d u))
     unfolding state_of tables_of of_version
     carry_is o o' d d' =
-        version_carry now w x ∙ ap₂ (λ (y z : Option ℕ). for_pair 4 (specified (plain_of s n).specs) y z (λ d u. asked now (query_of_version k d u))) d d'
+        version_carry now w x
+        ∙ ap₂ (λ (y z : Option ℕ). for_pair 4 (specified (plain_of s n).specs) y z (λ d u. asked now (query_of_version k d u))) d d'
 
-    pub version_no_component : {p q : Room} {old new : List ℕ} → g ≡ None → Puts (row i (decimal 4)) p q old new → Carried i now now p q old new (asked_of_version k w x)
+    pub version_no_component : {old new : Writer} → g ≡ None → Writes (row i (decimal 4)) old new
+        → CarriedBy i now now old new (asked_of_version k w x)
     unfolding for_pair afterwards lines
     version_no_component h z = carried i now (asked_of_version k w x) (refused 4) (carry_is none _ (found_nothing g _ e h) refl) refl z
 
     module _ (d : ℕ) (h : g ≡ Some d) (g' : Found ℕ) (e' : answered g' ≡ place (table_of versions v) x) where
       -- a version without a number: 10 where the component is specified, else 4
-      pub version_no_number : {p q : Room} {old new : List ℕ} → g' ≡ None → (a : ℕ) → a ≡ (if? specified (plain_of s n).specs d then 10 else 4) → Puts (row i (decimal a)) p q old new
-          → Carried i now now p q old new (asked_of_version k w x)
+      pub version_no_number : {old new : Writer} → g' ≡ None → (a : ℕ) → a ≡ (if? specified (plain_of s n).specs d then 10 else 4)
+          → Writes (row i (decimal a)) old new → CarriedBy i now now old new (asked_of_version k w x)
       unfolding for_pair
       version_no_number h' a ea z =
           carried i now (asked_of_version k w x) (if? specified (plain_of s n).specs d then refused 10 else refused 4)
           (carry_is (some d) none (found_at g d _ e h) (found_nothing g' _ e' h')) (keeps (specified (plain_of s n).specs d))
-          (puts_as (ap (λ (b : ℕ). row i (decimal b)) ea ∙ shows (specified (plain_of s n).specs d)) z)
+          (writes_as (ap (λ (b : ℕ). row i (decimal b)) ea ∙ shows (specified (plain_of s n).specs d)) z)
         where
           keeps : (b : Bool) → afterwards now (if? b then refused 10 else refused 4) ≡ now
           keeps true = unfold afterwards if?◌then◌else◌ in refl
@@ -151,29 +133,30 @@ module _ (i : ℕ) (k : OfVersion) where
           shows true = unfold lines if?◌then◌else◌ in refl
           shows false = unfold lines if?◌then◌else◌ in refl
 
-      pub version_known : {p q : Room} {old new : List ℕ} → (u : ℕ) → g' ≡ Some u → Puts (lines i (asked now (query_of_version k d u))) p q old new
-          → Carried i now now p q old new (asked_of_version k w x)
+      pub version_known : {old new : Writer} → (u : ℕ) → g' ≡ Some u → Writes (lines i (asked now (query_of_version k d u))) old new
+          → CarriedBy i now now old new (asked_of_version k w x)
       unfolding for_pair
       version_known u h' z =
-          carried i now (asked_of_version k w x) (asked now (query_of_version k d u)) (carry_is (some d) (some u) (found_at g d _ e h) (found_at g' u _ e' h'))
-          (asked_keeps _ _) z
+          carried i now (asked_of_version k w x) (asked now (query_of_version k d u))
+          (carry_is (some d) (some u) (found_at g d _ e h) (found_at g' u _ e' h')) (asked_keeps _ _) z
 
-  pub version_kind : (k' : OfVersion) → k ≡ k' → (s : State) (c v : ℕ) {p q : Room} {old new : List ℕ}
-      → Puts (lines i (asked s (query_of_version k' c v))) p q old new → Puts (lines i (asked s (query_of_version k c v))) p q old new
-  version_kind k' e s c v {p} {q} {old} {new} z = subst (λ (j : OfVersion). Puts (lines i (asked s (query_of_version j c v))) p q old new) (sym e) z
+  pub version_kind : (k' : OfVersion) → k ≡ k' → (s : State) (c v : ℕ) {old new : Writer}
+      → Writes (lines i (asked s (query_of_version k' c v))) old new → Writes (lines i (asked s (query_of_version k c v))) old new
+  version_kind k' e s c v {old} {new} z = subst (λ (j : OfVersion). Writes (lines i (asked s (query_of_version j c v))) old new) (sym e) z
 
 -- ---- the answer where a version has no number
 
 module _ (s n : List ℕ) (c : ℕ) {r : Bool} (e : r ≡ specified (plain_of s n).specs c) where
-  pub answer_4 : not r ≡ true → ◌≡◌ {A = ℕ} 4 (if? specified (plain_of s n).specs c then 10 else 4)
-  answer_4 h = sym (if-false _ _ _ (sym e ∙ not-true r h))
+  pub answer_4 : r ≡ false → ◌≡◌ {A = ℕ} 4 (if? specified (plain_of s n).specs c then 10 else 4)
+  answer_4 h = sym (if-false _ _ _ (sym e ∙ h))
 
-  pub answer_10 : not r ≡ false → ◌≡◌ {A = ℕ} 10 (if? specified (plain_of s n).specs c then 10 else 4)
-  answer_10 h = sym (if-true _ _ _ (sym e ∙ not-false r h))
+  pub answer_10 : r ≡ true → ◌≡◌ {A = ℕ} 10 (if? specified (plain_of s n).specs c then 10 else 4)
+  answer_10 h = sym (if-true _ _ _ (sym e ∙ h))
 
 -- ---- "choice"
 
-module _ (i : ℕ) (s n c v f m : List ℕ) (known : Bool) (fs : List Name) (all : known ≡ every (λ g. is_some (place (table_of facilities f) g)) fs) where
+module _ (i : ℕ) (s n c v f m : List ℕ) (known : Bool) (fs : List Name)
+    (all : known ≡ every (λ g. is_some (place (table_of facilities f) g)) fs) where
   abbrev here : State
   here = state_of s n c v f m
 
@@ -182,26 +165,22 @@ module _ (i : ℕ) (s n c v f m : List ℕ) (known : Bool) (fs : List Name) (all
   choice_carry = ap (λ (b : Bool). if? b then asked here (model.CHOICE (numbers (table_of facilities f) fs)) else rows []) (sym all)
 
   -- "and CHOICE of it finds nothing"
-  pub choice_nothing : {p q : Room} {old new : List ℕ} → not known ≡ true → Puts (row i (decimal 0)) p q old new → Carried i here here p q old new (CHOICE fs)
+  pub choice_nothing : {old new : Writer} → known ≡ false → Writes (row i (decimal 0)) old new → CarriedBy i here here old new (CHOICE fs)
   unfolding afterwards
   choice_nothing h z =
-      carried i here (CHOICE fs) (rows []) (choice_carry ∙ if-false _ _ _ (not-true known h)) refl (puts_as (sym (answer_alone i 0) ∙ accepted_rows i []) z)
+      carried i here (CHOICE fs) (rows []) (choice_carry ∙ if-false _ _ _ h) refl (writes_as (sym (answer_alone i 0) ∙ accepted_rows i []) z)
 
-  pub choice-known : {p q : Room} {old new : List ℕ} → not known ≡ false
-      → Puts (lines i (asked here (model.CHOICE (numbers (table_of facilities f) fs)))) p q old new → Carried i here here p q old new (CHOICE fs)
-  choice-known h z = carried i here (CHOICE fs) _ (choice_carry ∙ if-true _ _ _ (not-false known h)) (asked_keeps _ _) z
+  pub choice-known : {old new : Writer} → known ≡ true
+      → Writes (lines i (asked here (model.CHOICE (numbers (table_of facilities f) fs)))) old new → CarriedBy i here here old new (CHOICE fs)
+  choice-known h z = carried i here (CHOICE fs) _ (choice_carry ∙ if-true _ _ _ h) (asked_keeps _ _) z
 
-module _ (t : Text) (facs : List ℕ) (at : ℕ) (k : Known) (r : Answers choice (ChoiceAsked (table_of facilities facs) k) t at k.there k.end)
-    (n : not k.there ≡ false) where
-  pub choice-answers : (R : Said → Type 0)
-      → ((fs : List Name) → k.known ≡ every (λ g. is_some (place (table_of facilities facs) g)) fs
-      → (k.known ≡ true → bit k.set ≡ set_of (numbers (table_of facilities facs) fs)) → R (CHOICE fs)) → Answers choice R t at true k.end
-  choice-answers R z =
-      answers_as choice (ChoiceAsked (table_of facilities facs) k) R t at k.end k.there r (not-false k.there n)
-      (λ x q. subst R (sym q.said) (z q.fs q.all_known q.set_is))
+pub choice-answers : (facs : List ℕ) (k : Known) (r s : Reader) → Read choice (ChoiceAsked (table_of facilities facs) k) r s → {R : Said → Type 0}
+    → ((fs : List Name) → k.known ≡ every (λ g. is_some (place (table_of facilities facs) g)) fs
+    → (k.known ≡ true → bit k.set ≡ set_of (numbers (table_of facilities facs) fs)) → R (CHOICE fs)) → Read choice R r s
+choice-answers facs k r s g {R = R} z = gives_as r s g (λ x q. subst R (sym q.said) (z q.fs q.all_known q.set_is))
 
 -- ---- the whole book
 
-pub book_carried : (x y : OfBook) → x ≡ y → {i : ℕ} {s s' : State} {p q : Room} {old new : List ℕ} → Carried i s s' p q old new (asked_of_book y)
-    → Carried i s s' p q old new (asked_of_book x)
-book_carried x y e {i} {s} {s'} {p} {q} {old} {new} c = subst (λ (z : OfBook). Carried i s s' p q old new (asked_of_book z)) (sym e) c
+pub book_carried : (x y : OfBook) → x ≡ y → {i : ℕ} {s s' : State} {old new : Writer} → CarriedBy i s s' old new (asked_of_book y)
+    → CarriedBy i s s' old new (asked_of_book x)
+book_carried x y e {i} {s} {s'} {old} {new} c = subst (λ (z : OfBook). CarriedBy i s s' old new (asked_of_book z)) (sym e) c

@@ -9,10 +9,7 @@ use native.Mathlib.Omega.{arith}
 use Rattle.std.proofs.Math.ListN.{length}
 use Rattle.std.proofs.lemmas.List.{length-map}
 use Rattle.book.specs.Plain.{plain_of}
-use Rattle.write_bytes.specs.Room.{Puts}
-use Rattle.write_bytes.specs.RoomLaws.{puts_as}
 use Rattle.write_bytes.specs.Written.{pair_row_lem, pair_of}
-use Rattle.write_bytes.specs.declared.Room.{Room}
 use Rattle.model.specs.Book.{Book, Pair, facilities, has_version, provides, versions}
 use Rattle.model.specs.Lists.{every, rising, set_of}
 use Rattle.model.specs.PartsList.{listed, next_row, parts, rows_from}
@@ -28,14 +25,14 @@ use Rattle.query_replies.specs.RepliedLaws.{to_found, to_refused}
 use Rattle.query_replies.specs.RowLaws.{rows_flat}
 use Rattle.model_laws.specs.FirstNoLaws.{none-asked, none_left, others_asked, yes_at}
 use Rattle.model_laws.specs.ListLaws.{every_listed}
-use Rattle.book_rules.specs.Test.{passes}
 use Rattle.book_rules.specs.TestLaws.{passes_plain}
 use Rattle.seqs.specs.Filled.{filled}
 use Rattle.sets.specs.SetLaws.{bit_limit}
 use Rattle.sets.specs.Sets.{Set, bit, subset}
 use Rattle.sets.specs.TestLaws.{<?_in, <?_out, =?-same, and_in, and_l, and_r, count_le, if-true, or_l, or_r, same?, ≤?_in}
 use Rattle.sets.specs.Tests.{◌&◌, ◌<?◌, ◌≤?◌}
-use Rattle.session_state.specs.State.{Ready, state_of}
+use Rattle.session_state.specs.Ready.{Ready}
+use Rattle.session_state.specs.State.{state_of}
 use Rattle.text.specs.Bytes.{Text}
 use Rattle.text.specs.Session.{decimal, lines, pair_row, row, rows, shown}
 use Rattle.text.specs.Session as session
@@ -46,7 +43,8 @@ use Rattle.model_laws.specs.MapLaws.{option?}
 use Rattle.model_laws.specs.Parts.{pair_limits, part_has_version, parts_only, rows_from_end, rows_from_row, rows_from_zero}
 use Rattle.model_laws.specs.RisingLaws.{rising_below, rising-length, rising-set}
 use Rattle.session_rows.specs.Rows.{answer_rows, pair_in, pairs_in}
-use Rattle.session_rows.specs.ShownLaws.{accepted_rows, answer_alone, asked_is}
+use Rattle.session_rows.specs.RowLaws.{answer_alone}
+use Rattle.session_rows.specs.ShownLaws.{accepted_rows, asked_is}
 
 -- ---- a pair and its number
 
@@ -101,7 +99,8 @@ module _ (test : ℕ → ℕ → Bool) where
 
   pairs_few : length (rising_pairs test) ≤ 2048
   pairs_few =
-      let e : length (rising_pairs test) ≡ _ = sym (length-map (rising_pairs test) row_of) ∙ ap length (rows_flat test) ∙ rising-length 2048 (flat test) in
+      let e : length (rising_pairs test) ≡ _ =
+      sym (length-map (rising_pairs test) row_of) ∙ ap length (rows_flat test) ∙ rising-length 2048 (flat test) in
       let l = count_le 2048 (flat test) in omega arith
 
 pub choice-room : (old : List ℕ) (a n : ℕ) (new : List ℕ) (r : Reply) → Listed old a n new r → n ≤ length new
@@ -119,7 +118,8 @@ module _ (i : ℕ) (s n c v f m : List ℕ) (ready : Ready s n c v f m) (w : ℕ
   same_choice : choice (plain_of s n) (numbers_in w) ≡ choice (plain_of s n) fs
   unfolding choice numbers_in
   same_choice =
-      ap (λ (g : Set). rising_pairs (λ d u. has_version (plain_of s n).specs d u & subset facilities g (provides (plain_of s n).specs d))) (rising-set w w< ∙ e)
+      ap (λ (g : Set). rising_pairs (λ d u. has_version (plain_of s n).specs d u & subset facilities g (provides (plain_of s n).specs d)))
+      (rising-set w w< ∙ e)
 
   choice_reply : replied_to s n (CHOICE (numbers_in w)) ≡ the_pairs (choice (plain_of s n) fs)
   choice_reply = said_choice (numbers_in w) (unfold numbers_in in rising_below 64 (bit w)) ∙ ap the_pairs same_choice
@@ -131,15 +131,17 @@ module _ (i : ℕ) (s n c v f m : List ℕ) (ready : Ready s n c v f m) (w : ℕ
       few : length (choice (plain_of s n) fs) ≤ 2048
       few = unfold choice in pairs_few _
 
-  pub choice_shown : (old new : List ℕ) (a k : ℕ) {p q : Room} {x y : List ℕ} → length old ≡ 2048
-      → Listed old a k new (fitted (length old) (replied_to s n (CHOICE (numbers_in w)))) → Puts (answer_rows i a (pairs_in c v k new)) p q x y
-      → Puts (lines i (session.asked (state_of s n c v f m) (CHOICE fs))) p q x y
-  choice_shown old new a k l z = puts_as (written ∙ ap (lines i) (sym (asked_is i s n c v f m ready (CHOICE fs) ∙ ap (shown (tables_of c v f m)) (said_choice fs fs_below) ∙ as_rows)))
+  pub choice_shown : (old new : List ℕ) (a k : ℕ) → length old ≡ 2048
+      → Listed old a k new (fitted (length old) (replied_to s n (CHOICE (numbers_in w))))
+      → answer_rows i a (pairs_in c v k new) ≡ lines i (session.asked (state_of s n c v f m) (CHOICE fs))
+  choice_shown old new a k l z =
+      written ∙ ap (lines i) (sym (asked_is i s n c v f m ready (CHOICE fs) ∙ ap (shown (tables_of c v f m)) (said_choice fs fs_below) ∙ as_rows))
     where
       is : Listed old a k new (the_pairs (choice (plain_of s n) fs))
       is = subst (Listed old a k new) (choice-fits (length old) l) z
 
-      as_rows : shown (tables_of c v f m) (the_pairs (choice (plain_of s n) fs)) ≡ rows (map (pair_row (tables_of c v f m)) (choice (plain_of s n) fs))
+      as_rows : shown (tables_of c v f m) (the_pairs (choice (plain_of s n) fs))
+          ≡ rows (map (pair_row (tables_of c v f m)) (choice (plain_of s n) fs))
       as_rows = unfold shown in refl
 
       written : answer_rows i a (pairs_in c v k new) ≡ lines i (rows (map (pair_row (tables_of c v f m)) (choice (plain_of s n) fs)))
@@ -167,7 +169,8 @@ listed_low (q ∷ xs) h =
 
 pub parts-room : (s n : List ℕ) (d u : ℕ) (old : List ℕ) (a k depth : ℕ) (new : List ℕ) → parts_call.Listed s n d u old a k depth new → k ≤ length new
 parts-room s n d u old a k depth new z = elim (same? a 0) [
-  | inl e ↦ filled_enough (map row_number (parts (plain_of s n) d u)) old new k ((z.found e).rows_are ∙ sym (length-map (parts (plain_of s n) d u) row_number)) (z.found e).out_is
+  | inl e ↦ filled_enough (map row_number (parts (plain_of s n) d u)) old new k
+      ((z.found e).rows_are ∙ sym (length-map (parts (plain_of s n) d u) row_number)) (z.found e).out_is
   | inr ne ↦ (let e = (z.refused ne).1 in omega arith)
 ]
 
@@ -198,15 +201,18 @@ module _ (i : ℕ) (s n c v f m : List ℕ) (ready : Ready s n c v f m) (d u : �
   parts_low : first_no (asked book (PARTS d u)) ≡ 0 → every low (parts book d u) ≡ true
   parts_low h =
       let g = passes→good (passes_plain s n ready.passes) in
-      listed_low (parts book d u) (λ x w t. (pair_limits book g d u (has_it h) x w (part_has_version book g d u (has_it h) x w (parts_only book g d u (has_it h) x w t))).1)
+      listed_low (parts book d u)
+      (λ x w t. (pair_limits book g d u (has_it h) x w
+      (part_has_version book g d u (has_it h) x w (parts_only book g d u (has_it h) x w t))).1)
 
-  pub parts_shown : (old new : List ℕ) (a k depth : ℕ) {p q : Room} {x y : List ℕ} → length old ≡ 256 → parts_call.Listed s n d u old a k depth new
-      → Puts (answer_rows i a (pairs_in c v k new)) p q x y → Puts (lines i (session.asked (state_of s n c v f m) (PARTS d u))) p q x y
-  parts_shown old new a k depth l z = puts_as (written ∙ ap (lines i) (sym (asked_is i s n c v f m ready (PARTS d u))))
+  pub parts_shown : (old new : List ℕ) (a k depth : ℕ) → length old ≡ 256 → parts_call.Listed s n d u old a k depth new
+      → answer_rows i a (pairs_in c v k new) ≡ lines i (session.asked (state_of s n c v f m) (PARTS d u))
+  parts_shown old new a k depth l z = written ∙ ap (lines i) (sym (asked_is i s n c v f m ready (PARTS d u)))
     where
       answer_is : a ≡ first_no (asked book (PARTS d u))
       answer_is =
-          let e : parts_answer s n d u (length old) ≡ first_no (parts_asked book d u (length old)) = unfold parts_answer in if-true _ _ _ ready.passes in
+          let e : parts_answer s n d u (length old) ≡ first_no (parts_asked book d u (length old)) =
+          unfold parts_answer in if-true _ _ _ ready.passes in
           z.answer_is ∙ e ∙ parts-asked (length old) l
 
       accepted : a ≡ 0 → answer_rows i a (pairs_in c v k new) ≡ lines i (shown (tables_of c v f m) (replied_to s n (PARTS d u)))
@@ -219,7 +225,8 @@ module _ (i : ℕ) (s n c v f m : List ℕ) (ready : Ready s n c v f m) (d u : �
           (list.out_is ∙ ap (λ (ws : List ℕ). filled ws old) same)
           ∙ ap (lines i) (as_rows (to_found s n (PARTS d u) ready.passes h))
         where
-          as_rows : replied_to s n (PARTS d u) ≡ found book (PARTS d u) → rows (map (pair_row (tables_of c v f m)) (parts book d u)) ≡ shown (tables_of c v f m) (replied_to s n (PARTS d u))
+          as_rows : replied_to s n (PARTS d u) ≡ found book (PARTS d u)
+              → rows (map (pair_row (tables_of c v f m)) (parts book d u)) ≡ shown (tables_of c v f m) (replied_to s n (PARTS d u))
           as_rows e = unfold shown found in ap (shown (tables_of c v f m)) (sym e)
 
       none : (a ≡ 0 → ⊥) → answer_rows i a (pairs_in c v k new) ≡ lines i (shown (tables_of c v f m) (replied_to s n (PARTS d u)))

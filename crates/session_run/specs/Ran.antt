@@ -1,8 +1,8 @@
 -- A session as a loop of steps: what it has done so far, and in the end.
 use Rattle.std.specs.Prelude.{true, List, ◌≡◌, ◌+◌, ◌≤◌, ℕ, drop, length}
-use Rattle.write_bytes.specs.Room.{Puts}
+use Rattle.write_bytes.specs.Room.{Puts, Room, room_of}
 use Rattle.write_bytes.specs.RoomLaws.{Partly}
-use Rattle.write_bytes.specs.declared.Room.{Room}
+use Rattle.write_bytes.specs.declared.writer.Writer.{Writer}
 use Rattle.session_step.specs.Stepped.{session_of}
 use Rattle.text.specs.Bytes.{Text}
 use Rattle.text.specs.Session.{State, session}
@@ -22,3 +22,8 @@ pub record Running (t : Text) (start at i : ℕ) (s : State) (q : Room) (old new
   pub state : (session_of i s (drop at t)).1 ≡ (session (drop start t)).1
   pub inside : at ≤ length t
   pub numbered : i ≤ at + 1
+
+-- the same by what a writer, of which the slice was `old` at first, has written
+pub record RunningBy (t : Text) (start at i : ℕ) (s : State) (old : List ℕ) (before after : Writer) : Type 0 where
+  pub running : Running t start at i s (room_of after.left) old after.out.now
+  pub same_slice : after.out.ghost_name ≡ before.out.ghost_name

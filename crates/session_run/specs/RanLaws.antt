@@ -1,13 +1,14 @@
 -- A session as a loop of steps.
-use Rattle.std.specs.Prelude.{Bool, false, true, not as notᵇ, List, ◌++◌, ◌≡◌, ◌+◌, ◌<◌, ◌≤◌, suc, ℕ, drop, length}
-use Rattle.std.proofs.Common.{append-nil, ◌∙◌, ap, ap₂, subst, sym, arith, length-drop, drop-drop}
+use Rattle.std.specs.Prelude.{Bool, None, Option, Some, false, true, not as notᵇ, List, ◌++◌, ◌≡◌, ◌+◌, ◌<◌, ◌≤◌, suc, ℕ, drop, length}
+use Rattle.std.proofs.Common.{refl, append-nil, ◌∙◌, ap, ap₂, subst, sym, arith, length-drop, drop-drop}
 use Rattle.std.proofs.lemmas.Bool.{not-false, not-true}
 use Rattle.write_bytes.specs.RoomLaws.{partly_as, partly_end, partly_more, partly_start}
-use Rattle.write_bytes.specs.declared.Room.{Room}
+use Rattle.write_bytes.specs.Room.{Room, room_of}
+use Rattle.write_bytes.specs.declared.writer.Writer.{Writer}
 use Rattle.text.specs.Bytes.{Text}
 use Rattle.text.specs.Session.{State, fresh, session}
-use Rattle.session_run.specs.Ran.{Ran, Running, whole}
-use Rattle.session_step.specs.Stepped.{Stepped, session_of}
+use Rattle.session_run.specs.Ran.{Ran, Running, RunningBy, whole}
+use Rattle.session_step.specs.Stepped.{StepOf, Stepped, session_of}
 
 pub running_start : (t : Text) (start : ℕ) (old : List ℕ) (s : State) → s ≡ fresh → start ≤ length t → Running t start start 1 s (whole old) old old
 unfolding session session_of
@@ -51,3 +52,23 @@ module _ {t : Text} {start at i e : ℕ} {s s' : State} {q r : Room} {old now ne
         puts = partly_end (partly_more (partly_as (ap (λ (z : Text × State). z.0) g ∙ sym (append-nil d.rows)) u.listing) d.puts);
         state = sym (ap (λ (z : Text × State). z.1) g) ∙ u.state;
       }
+
+-- ---- by a writer
+
+pub runs_start : (t : Text) (start : ℕ) (old : List ℕ) (s : State) (w : Writer) → s ≡ fresh → start ≤ length t → w.left ≡ Some (length old)
+    → w.out.now ≡ old → RunningBy t start start 1 s old w w
+runs_start t start old s w f k l o = record {
+  running = subst (λ (x : Option ℕ). Running t start start 1 s (room_of x) old w.out.now) (sym l)
+      (subst (λ (x : List ℕ). Running t start start 1 s (whole old) old x) (sym o) (running_start t start old s f k));
+  same_slice = refl;
+}
+
+-- the step's text is the rest of the text t
+module _ {t u : Text} {start at i : ℕ} {s s' : State} {old : List ℕ} {a b c : Writer} (r : RunningBy t start at i s old a b)
+    (q : u ≡ drop at t) where
+  pub runs_on : {e f : ℕ} → StepOf i u s s' b c (Some e) → f ≡ at + e → RunningBy t start f (i + 1) s' old a c
+  runs_on d f = record { running = running_on r.running (on_rest q d.stepped) f refl; same_slice = d.same_slice ∙ r.same_slice }
+
+  pub runs_end : {new : List ℕ} → StepOf i u s s' b c None → new ≡ c.out.now → Ran (drop start t) s' (room_of c.left) old new
+  runs_end d e =
+      subst (λ (x : List ℕ). Ran (drop start t) s' (room_of c.left) old x) (sym e) (ran r.running (on_rest q d.stepped) refl)

@@ -1,64 +1,56 @@
 // A query, whose first word is read: its rows.
 #![tactic(auto)]
 
-ghost use Rattle.std.specs.Prelude.{◌≤◌, length};
+ghost use Rattle.std.specs.Prelude.{◌≡◌, IfNone};
 ghost use Rattle.read_command.specs.Forms.{named_reader, query_reader};
-ghost use Rattle.read_tokens.specs.Readers.{Answers};
-ghost use Rattle.session_state.specs.Carried.{Carried, Unread};
-ghost use Rattle.session_state.specs.State.{IsReady, plain_state};
+ghost use Rattle.read_tokens.specs.Ahead.{Gives};
+ghost use Rattle.session_state.specs.Carried.{CarriedBy};
+ghost use Rattle.session_state.specs.State.{plain_state};
 
 use read_command::{Named, Query};
+use read_tokens::Reader;
 use session_ask_book::{show_book, show_choice};
 use session_ask_component::show_component;
 use session_ask_version::show_version;
-use session_state::{Shown, State};
-use write_bytes::Room;
+use session_state::State;
+use write_bytes::Writer;
 
 // A query of a component, or of a component and a version.
 fn show_named(
-    out: &mut [u8],
-    room: Room,
+    writer: &mut Writer<'_>,
     i: usize,
     state: &State,
-    text: &[u8],
-    at: usize,
+    reader: &mut Reader<'_>,
     named: Named,
-) -> Shown
-    requires ready { IsReady state.now }
-    requires at_in_bounds { at ≤ length text.now }
-    ensures answers { Answers (named_reader named) (Carried i (plain_state state.now) (plain_state state.now) room result.room out.old out.new)
-        text.now at result.there result.end }
-    ensures unread { Unread result.there at result.end room result.room out.old out.new }
+) -> Option<()>
+    ensures answers { Gives (named_reader named) (λ _. CarriedBy i (plain_state state.now) (plain_state state.now) writer.old writer.new)
+        reader.old reader.new result }
+    ensures unread { IfNone result (writer.new ≡ writer.old) }
 {
     match named {
-        Named::One(what) => show_component(out, room, i, state, text, at, what),
-        Named::Pair(what) => show_version(out, room, i, state, text, at, what),
+        Named::One(what) => show_component(writer, i, state, reader, what),
+        Named::Pair(what) => show_version(writer, i, state, reader, what),
     }
 }
 
 // Any query.
 pub fn show(
-    out: &mut [u8],
-    room: Room,
+    writer: &mut Writer<'_>,
     i: usize,
     state: &State,
-    text: &[u8],
-    at: usize,
+    reader: &mut Reader<'_>,
     query: Query,
-) -> Shown
-    requires ready { IsReady state.now }
-    requires at_in_bounds { at ≤ length text.now }
-    ensures answers { Answers (query_reader query) (Carried i (plain_state state.now) (plain_state state.now) room result.room out.old out.new)
-        text.now at result.there result.end }
-    ensures unread { Unread result.there at result.end room result.room out.old out.new }
+) -> Option<()>
+    ensures answers { Gives (query_reader query) (λ _. CarriedBy i (plain_state state.now) (plain_state state.now) writer.old writer.new)
+        reader.old reader.new result }
+    ensures unread { IfNone result (writer.new ≡ writer.old) }
 {
     match query {
-        Query::ByName(named) => show_named(out, room, i, state, text, at, named),
-        Query::Choice => show_choice(out, room, i, state, text, at),
-        Query::Whole(what) => Shown {
-            there: true,
-            end: at,
-            room: show_book(out, room, i, state, what),
-        },
+        Query::ByName(named) => show_named(writer, i, state, reader, named),
+        Query::Choice => show_choice(writer, i, state, reader),
+        Query::Whole(what) => {
+            show_book(writer, i, state, what);
+            Some(())
+        }
     }
 }

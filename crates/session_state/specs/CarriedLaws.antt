@@ -1,20 +1,20 @@
 -- The row of one of the ten commands; what was read.
-use Rattle.std.specs.Prelude.{Bool, false, true, List, ◌≡◌, ◌≤◌, suc, zero, ℕ, length}
-use Rattle.std.proofs.Common.{◌∙◌, ap, subst, sym, le_refl, arith}
+use Rattle.std.specs.Prelude.{List, ◌≡◌, suc, zero, ℕ}
+use Rattle.std.proofs.Common.{◌∙◌, ap, subst, sym, arith}
 use Rattle.std.proofs.Math.Path.{refl}
-use Rattle.read_tokens.specs.Readers.{Answers}
-use Rattle.read_tokens.specs.TokenLaws.{answer_yes}
-use Rattle.write_bytes.specs.Room.{Puts}
-use Rattle.write_bytes.specs.declared.Room.{Room}
+use Rattle.read_tokens.specs.SequenceLaws.{Read}
+use Rattle.read_tokens.specs.declared.reader.Reader.{Reader}
+use Rattle.write_bytes.specs.Room.{Puts, Room}
+use Rattle.write_bytes.specs.Writes.{Writes}
+use Rattle.write_bytes.specs.declared.writer.Writer.{Writer}
 use Rattle.model.specs.Book.{Book}
 use Rattle.model.specs.Commands.{Command, after}
 use Rattle.model.specs.PlainBook.{answer, next}
-use Rattle.sets.specs.TestLaws.{clash}
 use Rattle.text.specs.Bytes.{Text}
-use Rattle.text.specs.Language.{Reader, Said, give}
-use Rattle.text.specs.Session.{State, afterwards, decided, decimal, lines, row, told}
+use Rattle.text.specs.Language.{Reader as Production, Said}
+use Rattle.text.specs.Session.{State, afterwards, carry, decided, decimal, lines, row, told}
 use Rattle.text.specs.Tables.{Tables}
-use Rattle.session_state.specs.Carried.{Carried, Decides, Undecided, Unread}
+use Rattle.session_state.specs.Carried.{Carried, CarriedBy, Decides}
 
 decided_lines : (i a : ℕ) (s : State) → lines i (decided a s) ≡ row i (decimal a)
 unfolding lines decided
@@ -45,31 +45,14 @@ told_next b t k = by (answer b k)
     by zero = refl
     by (suc m) = unfold decided in refl
 
--- ---- what was read, and what was not
+-- ---- what was read
 
--- what was read may be said otherwise
-pub answers_as : {A : Type 0} (p : Reader A) (Q R : A → Type 0) (t : Text) (at e : ℕ) (there : Bool) → Answers p Q t at there e → there ≡ true
-    → ((x : A) → Q x → R x) → Answers p R t at true e
-answers_as p Q R t at e there r y f =
-    let g = r.yes y in
-    answer_yes p R t at e (record { value = g.value; is = g.is; took = f g.value g.took; from = g.from; inside = g.inside })
+-- it may be said otherwise
+pub gives_as : {A : Type 0} {p : Production A} {Q R : A → Type 0} (r s : Reader) → Read p Q r s → ((x : A) → Q x → R x) → Read p R r s
+gives_as r s g f = (record { value = g.0.value; is = g.0.is; took = f g.0.value g.0.took; from = g.0.from; inside = g.0.inside }, g.1)
 
--- a query of one word
-pub asked_alone : (x : Said) {R : Said → Type 0} {t : Text} {at : ℕ} → at ≤ length t → R x → Answers (give x) R t at true at
-unfolding give
-asked_alone x l r = record {
-  yes = λ y. record { value = x; is = refl; took = r; from = le_refl _; inside = l };
-  no = λ y. clash refl y;
-}
+-- ---- a command of which a writer has the rows
 
-pub was_read : {at e : ℕ} {p q : Room} {old new : List ℕ} → Unread true at e p q old new
-was_read = record { end = λ y. clash refl y; room = λ y. clash refl y; slice = λ y. clash refl y }
-
-pub unread : (at : ℕ) (p : Room) (old : List ℕ) → Unread false at at p p old old
-unread at p old = record { end = λ y. refl; room = λ y. refl; slice = λ y. refl }
-
-pub was_decided : {at e a : ℕ} {s s' : State} → Undecided at s s' (record { there = true; end = e; answer = a })
-was_decided = record { end = λ y. clash refl y; answer = λ y. clash refl y; state = λ y. clash refl y }
-
-pub undecided : (at : ℕ) (s : State) → Undecided at s s (record { there = false; end = at; answer = 0 })
-undecided at s = record { end = λ y. refl; answer = λ y. refl; state = λ y. refl }
+module _ {i : ℕ} {s s' : State} {w w' : Writer} {x : Said} where
+  pub carried_by : Writes (lines i (carry s x)) w w' → s' ≡ afterwards s (carry s x) → CarriedBy i s s' w w' x
+  carried_by r e = record { carried = record { rows = r.puts; state = e }; same_slice = r.same_slice }

@@ -1,3 +1,4 @@
+pub mod Ready
 pub mod State
 pub mod Carried
 pub mod CarriedLaws

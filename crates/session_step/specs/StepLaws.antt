@@ -1,29 +1,30 @@
 -- The three ways of a step: the session is over, what comes next is not of the language, or it is a command.
-use Rattle.std.specs.Prelude.{Bool, false, not, true, List, [], ◌++◌, ◌≡◌, ◌≤◌, suc, ℕ, drop, length}
-use Rattle.std.proofs.Math.Logic.{inl, inr}
+use Rattle.std.specs.Prelude.{Bool, IsNone, None, Option, Some, false, true, List, [], ◌++◌, ◌≡◌, ◌≤◌, suc, ℕ, drop, length}
 use Rattle.std.proofs.Common.{◌∙◌, sym, arith}
+use Rattle.std.proofs.Math.Option.{none}
 use Rattle.std.proofs.Math.Path.{ap, refl, subst}
-use Rattle.std.proofs.lemmas.Bool.{not-false, not-true}
 use Rattle.std.proofs.Math.ListN.{length-drop}
-use Rattle.read_tokens.specs.Readers.{Answers}
-use Rattle.write_bytes.specs.Room.{Puts}
+use Rattle.read_tokens.specs.Readers.{Got}
+use Rattle.read_tokens.specs.declared.reader.Reader.{Reader}
+use Rattle.write_bytes.specs.Room.{Puts, Room, room_of}
 use Rattle.write_bytes.specs.RoomLaws.{puts_none}
-use Rattle.write_bytes.specs.declared.Room.{Room}
-use Rattle.sets.specs.TestLaws.{bool?, clash}
-use Rattle.session_state.specs.Carried.{Carried, Decides, Unread}
+use Rattle.write_bytes.specs.Writes.{Writes}
+use Rattle.write_bytes.specs.declared.writer.Writer.{Writer}
+use Rattle.sets.specs.TestLaws.{clash}
+use Rattle.session_state.specs.Carried.{Carried, CarriedBy, Decides}
 use Rattle.session_state.specs.CarriedLaws.{decides_carried}
 use Rattle.text.specs.Bytes.{Text}
-use Rattle.text.specs.Language.{Read, Reader, Said, command, over, read_as, said, wrong}
+use Rattle.text.specs.Language.{Read, Reader as Production, Said, command, over, read_as, said, wrong}
 use Rattle.text.specs.Session.{State, carry, decimal, lines, on_read, row, session_from}
 use Rattle.text_laws.specs.Bounds.{session_step_lem}
 use Rattle.text_laws.specs.Left.{left_length}
 use Rattle.text_laws.specs.Takes.{LeftR, command_left}
-use Rattle.read_command.specs.Forms.{Begins, begun, command_reader, query_reader}
+use Rattle.read_command.specs.Forms.{BeginsBy, begun, command_reader, query_reader}
 use Rattle.read_command.specs.declared.Command.{Command}
 use Rattle.read_command.specs.declared.Query.{Query}
-use Rattle.session_step.specs.Stepped.{Behind, Stepped, session_of}
 use Rattle.read_command.specs.declared.Form.{Form}
-use Rattle.read_command.specs.declared.Form.TheVariants.{Asks, Changes, Nothing, Over}
+use Rattle.read_command.specs.declared.Form.TheVariants.{Asks, Changes, Over}
+use Rattle.session_step.specs.Stepped.{Behind, BehindOf, StepOf, Stepped, end, more, session_of}
 
 as_read : (i : ℕ) (s : State) (t : Text) (r : Read) → command t ≡ r
     → session_of i s t ≡ on_read (λ s' u. session_from (length u) (suc i) s' u) i s r
@@ -77,94 +78,87 @@ module _ (i : ℕ) (t : Text) (s : State) (p : Room) (old : List ℕ) where
 
 -- ---- behind the first word
 
-module _ {k : Reader Said} {i : ℕ} {t : Text} {at : ℕ} {s s' : State} {p q : Room} {old new : List ℕ} where
-  pub behind_decided : {a e : ℕ} {there : Bool} → Answers k (Decides s s' a) t at there e → not there ≡ false
-      → Puts (row i (decimal a)) p q old new → Behind k i t at s s' p q old new true e
-  behind_decided {a} d h r =
-      let g = d.yes (not-false _ h) in
-      record {
-        read = λ y. record {
-          value = g.value;
-          is = g.is;
-          took = decides_carried i a s s' p q old new g.value g.took r;
-          from = g.from;
-          inside = g.inside;
-        };
-        unread = λ y. clash refl y;
-        refused = λ y. clash refl y;
-        unchanged = λ y. clash refl y;
-        stops = λ y. clash refl y;
-      }
-
-  pub behind_unread : {R : Said → Type 0} {e z : ℕ} {there more : Bool} → Answers k R t at there e → not there ≡ true → s' ≡ s
-      → (more ≡ false) × (z ≡ 0) × Puts (row i (decimal 23)) p q old new → Behind k i t at s s' p q old new more z
-  behind_unread d h c r = record {
-    read = λ y. clash y r.0;
-    unread = λ y. d.no (not-true _ h);
-    refused = λ y. r.2;
-    unchanged = λ y. c;
-    stops = λ y. r.1;
+module _ {k : Production Said} {i : ℕ} {r : Reader} {s s' : State} {w w' : Writer} where
+  pub behind_decided : {a n e : ℕ} → Got k (Decides s s' a) r.text.now r.at e → n ≡ a → Writes (row i (decimal n)) w w'
+      → BehindOf k i r s s' w w' (Some e)
+  behind_decided {a} {n} g m p = record {
+    behind = record {
+      read = λ y. record {
+        value = g.value;
+        is = g.is;
+        took = decides_carried i a s s' _ _ _ _ g.value g.took (rw m at p.puts);
+        from = g.from;
+        inside = g.inside;
+      };
+      unread = λ y. clash refl y;
+      refused = λ y. clash refl y;
+      unchanged = λ y. clash refl y;
+      stops = λ y. clash refl y;
+    };
+    same_slice = p.same_slice;
   }
-
-  pub behind_shown : {e : ℕ} {there : Bool} → Answers k (Carried i s s' p q old new) t at there e → not there ≡ false
-      → Behind k i t at s s' p q old new true e
-  behind_shown d h = record {
-    read = λ y. d.yes (not-false _ h);
-    unread = λ y. clash refl y;
-    refused = λ y. clash refl y;
-    unchanged = λ y. clash refl y;
-    stops = λ y. clash refl y;
-  }
-
-pub behind_unshown : {k : Reader Said} {i : ℕ} {t : Text} {at : ℕ} {s : State} {p q r : Room} {old mid new : List ℕ} {R : Said → Type 0}
-    {e z : ℕ} {there more : Bool} → Answers k R t at there e → Unread there at e p q old mid → not there ≡ true
-    → (more ≡ false) × (z ≡ 0) × Puts (row i (decimal 23)) q r mid new → Behind k i t at s s p r old new more z
-behind_unshown {i = i} {p = p} {r = r} {mid = mid} {new = new} d u h g =
-    let n = not-true _ h in
-    behind_unread d h refl (
-      g.0,
-      g.1,
-      subst (λ (x : List ℕ). Puts (row i (decimal 23)) p r x new) (u.slice n)
-          (subst (λ (x : Room). Puts (row i (decimal 23)) x r mid new) (u.room n) g.2),
-    )
 
 -- ---- the whole step, by what the first word begins
 
-module _ {t : Text} {f : Form} {e : ℕ} (c : Begins t 0 f e) where
-  begun_as : (g : Form) → f ≡ g → command t ≡ begun g (drop e t)
-  begun_as g h = c.is ∙ ap (λ (x : Form). begun x (drop e t)) h
+-- where no position is given
+no_position : (e : Option ℕ) → IsNone e → e ≡ None
+no_position None n = refl
+no_position (Some x) n = clash refl n
 
-  module _ {i : ℕ} {s : State} {p : Room} {old : List ℕ} where
-    pub steps_over : f ≡ Over → Stepped i t s s p p old old false 0
+-- the reader r stands at the start of a text, and q behind the first word
+module _ (r q : Reader) where
+  of_text : {t : Text} {f : Form} → r.text.now ≡ t → BeginsBy r q (Some f) → q.text.now ≡ t
+  of_text b c = ap (λ x. x.now) c.1 ∙ b
+
+  module _ (z : r.at ≡ 0) where
+    from_start : (x : Read) → command (drop r.at r.text.now) ≡ x → command r.text.now ≡ x
+    from_start x c = subst (λ (n : ℕ). command (drop n r.text.now) ≡ x) z c
+
+    begun_as : {f : Form} → BeginsBy r q (Some f) → (g : Form) → f ≡ g → command q.text.now ≡ begun g (drop q.at q.text.now)
+    begun_as {f} c g e =
+        subst (λ (v : Text). command v ≡ begun g (drop q.at v)) (ap (λ x. x.now) (sym c.1))
+        (from_start (begun g (drop q.at r.text.now)) (c.0.is ∙ ap (λ (x : Form). begun x (drop q.at r.text.now)) e))
+
+module _ (i : ℕ) (s : State) (w : Writer) where
+  on_text : {u t : Text} {s' : State} {w' : Writer} {e : Option ℕ} → u ≡ t → StepOf i u s s' w w' e → StepOf i t s s' w w' e
+  on_text {s' = s'} {w' = w'} {e = e} q d = subst (λ (x : Text). StepOf i x s s' w w' e) q d
+
+  stops_wrong : (u : Text) (w' : Writer) (e : Option ℕ) → command u ≡ wrong → IsNone e → Writes (row i (decimal 23)) w w'
+      → StepOf i u s s w w' e
+  stops_wrong u w' e c n p = subst (λ (x : Option ℕ). StepOf i u s s w w' x) (sym (no_position e n)) (record {
+    stepped = step_wrong i u s _ _ _ _ 0 refl c p.puts;
+    same_slice = p.same_slice;
+  })
+
+  stepped : (k : Production Said) (q : Reader) (s' : State) (w' : Writer) (e : Option ℕ)
+      → command q.text.now ≡ read_as (k (drop q.at q.text.now)) → BehindOf k i q s s' w w' e → StepOf i q.text.now s s' w w' e
+  unfolding read_as
+  stepped k q s' w' (Some e) c d =
+      let g = d.behind.read refl in
+      record {
+        stepped = step_said i q.text.now s _ _ s' _ _ g.value e g.inside (c ∙ ap read_as g.is) g.took;
+        same_slice = d.same_slice;
+      }
+  stepped k q s' w' None c d =
+      subst (λ (x : State). StepOf i q.text.now s x w w' None) (sym (d.behind.unchanged refl)) (record {
+        stepped = step_wrong i q.text.now s _ _ _ _ 0 refl (c ∙ ap read_as (d.behind.unread refl)) (d.behind.refused refl);
+        same_slice = d.same_slice;
+      })
+
+module _ (t : Text) (r q : Reader) (b : r.text.now ≡ t) (z : r.at ≡ 0) {i : ℕ} {s : State} {w : Writer} where
+  pub steps_nothing : {w' : Writer} {e : Option ℕ} → BeginsBy r q None → IsNone e → Writes (row i (decimal 23)) w w' → StepOf i t s s w w' e
+  steps_nothing c n p = on_text i s w b (stops_wrong i s w r.text.now _ _ (from_start r q z wrong c) n p)
+
+  module _ {f : Form} (c : BeginsBy r q (Some f)) where
+    pub steps_over : f ≡ Over → StepOf i t s s w w None
     unfolding begun
-    steps_over h = step_over i t s p old (begun_as Over h)
+    steps_over e = on_text i s w (of_text r q b c) (record { stepped = step_over i q.text.now s _ _ (begun_as r q z c Over e); same_slice = refl })
 
-  module _ {i : ℕ} {s : State} {p q : Room} {old new : List ℕ} {more : Bool} {z : ℕ} where
-    stops_wrong : command t ≡ wrong → (more ≡ false) × (z ≡ 0) × Puts (row i (decimal 23)) p q old new → Stepped i t s s p q old new more z
-    stops_wrong w r = subst (λ (b : Bool). Stepped i t s s p q old new b z) (sym r.0) (step_wrong i t s p old q new z r.1 w r.2)
-
-    pub steps_nothing : f ≡ Nothing → (more ≡ false) × (z ≡ 0) × Puts (row i (decimal 23)) p q old new → Stepped i t s s p q old new more z
-    unfolding begun
-    steps_nothing h r = stops_wrong (begun_as Nothing h) r
-
-    module _ {s' : State} where
-      steps_behind : (k : Reader Said) → command t ≡ read_as (k (drop e t)) → Behind k i t e s s' p q old new more z
-          → Stepped i t s s' p q old new more z
-      unfolding read_as
-      steps_behind k w d = elim (bool? more) [
-        | inl y ↦ (let g = d.read y in
-            subst (λ (b : Bool). Stepped i t s s' p q old new b z) (sym y)
-            (step_said i t s p old s' q new g.value z g.inside (w ∙ ap read_as g.is) g.took))
-        | inr y ↦ subst (λ (u : State). Stepped i t s u p q old new more z) (sym (d.unchanged y))
-            (stops_wrong (w ∙ ap read_as (d.unread y)) (y, d.stops y, d.refused y))
-      ]
-
-      pub steps_changed : (x : Command) → f ≡ Changes x → Behind (command_reader x) i t e s s' p q old new more z
-          → Stepped i t s s' p q old new more z
+    module _ {s' : State} {w' : Writer} {e : Option ℕ} where
+      pub steps_changed : (x : Command) → f ≡ Changes x → BehindOf (command_reader x) i q s s' w w' e → StepOf i t s s' w w' e
       unfolding begun
-      steps_changed x h d = steps_behind (command_reader x) (begun_as (Changes x) h) d
+      steps_changed x y d = on_text i s w (of_text r q b c) (stepped i s w (command_reader x) q s' w' e (begun_as r q z c (Changes x) y) d)
 
-      pub steps_asked : (x : Query) → f ≡ Asks x → Behind (query_reader x) i t e s s' p q old new more z
-          → Stepped i t s s' p q old new more z
+      pub steps_asked : (x : Query) → f ≡ Asks x → BehindOf (query_reader x) i q s s' w w' e → StepOf i t s s' w w' e
       unfolding begun
-      steps_asked x h d = steps_behind (query_reader x) (begun_as (Asks x) h) d
+      steps_asked x y d = on_text i s w (of_text r q b c) (stepped i s w (query_reader x) q s' w' e (begun_as r q z c (Asks x) y) d)

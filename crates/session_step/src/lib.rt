@@ -1,114 +1,71 @@
 // One step of a session: the next command of the text is read and carried out.
 #![tactic(auto)]
 
-ghost use Rattle.std.specs.Prelude.{false, ◌≡◌, ◌≤◌, length};
+ghost use Rattle.std.specs.Prelude.{◌≡◌, IsNone};
 ghost use Rattle.text.specs.Session.{decimal, row};
-ghost use Rattle.write_bytes.specs.Room.{Puts};
-ghost use Rattle.session_state.specs.State.{IsReady, plain_state};
+ghost use Rattle.write_bytes.specs.Writes.{Writes};
+ghost use Rattle.session_state.specs.State.{plain_state};
 ghost use Rattle.read_command.specs.Forms.{command_reader, query_reader};
-ghost use Rattle.session_step.specs.Stepped.{Behind, Stepped};
+ghost use Rattle.session_step.specs.Stepped.{BehindOf, StepOf};
 
 use read_command::{Command, Form, Query};
+use read_tokens::Reader;
+use refusal::Refusal;
 use session_state::State;
-use write_bytes::Room;
+use write_bytes::Writer;
 
-// A step of a session: whether there is more, the position at which it goes on if there is, and the room that is left.
-#[derive(Clone, Copy)]
-pub struct Advance {
-    pub more: bool,
-    pub end: usize,
-    pub room: Room,
-}
-
-// "Is the command of the language? no: 23, and the session ends."
-const NOT_OF_THE_LANGUAGE: usize = 23;
-
-// What is not of the language has its row, and there is no more.
-fn refuse(out: &mut [u8], room: Room, i: usize) -> Advance
-    ensures { (result.more ≡ false) × (result.end ≡ 0) × Puts (row i (decimal 23)) room result.room out.old out.new }
+// "Is the command of the language? no: 23, and the session ends": what is not has its row, and there is no position to go on from.
+fn refuse(writer: &mut Writer<'_>, i: usize) -> Option<usize>
+    ensures none { IsNone result }
+    ensures puts { Writes (row i (decimal 23)) writer.old writer.new }
 {
-    Advance {
-        more: false,
-        end: 0,
-        room: write_rows::put_answer_row(out, room, i, NOT_OF_THE_LANGUAGE),
-    }
+    write_rows::put_answer_row(writer, i, usize::from(Refusal::NotOfTheLanguage.number()));
+    None
 }
 
-// One of the ten commands, whose first word is read: its row, and its change of book and tables.
+// One of the ten commands, whose first word is read: its row, and its change of book and tables. It gives the position behind it.
 fn change(
     state: &mut State,
-    text: &[u8],
-    at: usize,
+    reader: &mut Reader<'_>,
     i: usize,
-    out: &mut [u8],
-    room: Room,
+    writer: &mut Writer<'_>,
     command: Command,
-) -> Advance
-    requires ready { IsReady state.old }
-    requires at_in_bounds { at ≤ length text.now }
-    ensures ready_2 { IsReady state.new }
-    ensures behind { Behind (command_reader command) i text.now at
-        (plain_state state.old)
-        (plain_state state.new)
-        room result.room out.old out.new result.more result.end }
+) -> Option<usize>
+    ensures { BehindOf (command_reader command) i reader.old (plain_state state.old) (plain_state state.new) writer.old writer.new result }
 {
-    let d = session_decide::decide(state, text, at, command);
-    if !d.there {
-        return refuse(out, room, i);
-    }
-    Advance {
-        more: true,
-        end: d.end,
-        room: write_rows::put_answer_row(out, room, i, d.answer),
-    }
+    let Some(answer) = session_decide::decide(state, reader, command) else {
+        return refuse(writer, i);
+    };
+    write_rows::put_answer_row(writer, i, usize::from(refusal::code(answer)));
+    Some(reader.at)
 }
 
-// A query, whose first word is read: its rows, or 23.
+// A query, whose first word is read: its rows, or 23. It gives the position behind it.
 fn ask(
-    out: &mut [u8],
-    room: Room,
+    writer: &mut Writer<'_>,
     i: usize,
     state: &State,
-    text: &[u8],
-    at: usize,
+    reader: &mut Reader<'_>,
     query: Query,
-) -> Advance
-    requires ready { IsReady state.now }
-    requires at_in_bounds { at ≤ length text.now }
-    ensures { Behind (query_reader query) i text.now at
-        (plain_state state.now)
-        (plain_state state.now)
-        room result.room out.old out.new result.more result.end }
+) -> Option<usize>
+    ensures { BehindOf (query_reader query) i reader.old (plain_state state.now) (plain_state state.now) writer.old writer.new result }
 {
-    let s = session_show::show(out, room, i, state, text, at, query);
-    if !s.there {
-        return refuse(out, s.room, i);
+    if session_show::show(writer, i, state, reader, query).is_none() {
+        return refuse(writer, i);
     }
-    Advance {
-        more: true,
-        end: s.end,
-        room: s.room,
-    }
+    Some(reader.at)
 }
 
 // The next command, the i-th, which is read from the rest of the text after the one before: its rows, and its change of book and tables.
-pub fn step(state: &mut State, rest: &[u8], i: usize, out: &mut [u8], room: Room) -> Advance
-    requires { IsReady state.old }
-    ensures ready { IsReady state.new }
-    ensures stepped { Stepped i rest.now
-        (plain_state state.old)
-        (plain_state state.new)
-        room result.room out.old out.new result.more result.end }
+// It gives the position in the rest from which the session goes on, if it does.
+pub fn step(state: &mut State, rest: &[u8], i: usize, writer: &mut Writer<'_>) -> Option<usize>
+    ensures { StepOf i rest.now (plain_state state.old) (plain_state state.new) writer.old writer.new result }
 {
-    let w = read_command::read_command(rest, 0);
-    match w.form {
-        Form::Changes(command) => change(state, rest, w.end, i, out, room, command),
-        Form::Asks(query) => ask(out, room, i, state, rest, w.end, query),
-        Form::Over => Advance {
-            more: false,
-            end: 0,
-            room,
-        },
-        Form::Nothing => refuse(out, room, i),
+    let mut reader = Reader::new(rest);
+    match read_command::read_command(&mut reader) {
+        Some(Form::Changes(command)) => change(state, &mut reader, i, writer, command),
+        Some(Form::Asks(query)) => ask(writer, i, state, &mut reader, query),
+        Some(Form::Over) => None,
+        None => refuse(writer, i),
     }
 }

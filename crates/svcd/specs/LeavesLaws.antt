@@ -1,9 +1,9 @@
 -- What a session leaves, whether its listing fits the slice or not; and the state that it begins with.
-use Rattle.std.specs.Prelude.{Bool, not, List, [], ◌++◌, ◌≡◌, ◌*◌, ◌+◌, ◌-◌, ◌<◌, ◌≤◌, ℕ, negsuc, take}
+use Rattle.std.specs.Prelude.{Bool, None, Option, Result, Some, not, ok_or, List, [], ◌++◌, ◌≡◌, ◌*◌, ◌+◌, ◌-◌, ◌<◌, ◌≤◌, ℕ, negsuc, take}
 use Rattle.std.proofs.Math.Bool.{false, true}
-use Rattle.std.proofs.Math.Logic.{inl, inr}
+use Rattle.std.proofs.Math.Logic.{◌⊎◌, inl, inr}
 use Rattle.std.proofs.Common.{◌∙◌, ap₂, le_refl}
-use Rattle.std.proofs.Math.Path.{ap, refl, sym}
+use Rattle.std.proofs.Math.Path.{ap, refl, subst, sym}
 use Rattle.std.proofs.Math.Nat.{sub_self}
 use native.Mathlib.Omega.{arith}
 use borrow.Author.Tests.{not-false, not-true}
@@ -11,8 +11,9 @@ use Rattle.std.proofs.Math.IntN.{pos}
 use Rattle.std.proofs.Math.ListN.{length, length-replicate, replicate}
 use Rattle.book.specs.Plain.{plain_of}
 use Rattle.read_tokens.specs.Entering.{Kept}
-use Rattle.write_bytes.specs.Room.{written_in}
-use Rattle.write_bytes.specs.declared.Room.{Room}
+use Rattle.write_bytes.specs.Room.{Room, written_in}
+use Rattle.refusal.specs.declared.Refusal.{Refusal}
+use Rattle.refusal.specs.declared.Refusal.TheVariants.{DoesNotFit}
 use Rattle.model.specs.Book.{Book, empty}
 use Rattle.model.specs.Lists.{every, non_empty}
 use Rattle.names.specs.Stored.{table_of, tables_of}
@@ -21,13 +22,15 @@ use Rattle.sets.specs.TestLaws.{and-false, and-true, bool?, fails, if-false, if-
 use Rattle.sets.specs.Tests.{◌≤?◌}
 use Rattle.seqs.specs.Filled.{filled}
 use Rattle.seqs.specs.FilledLaws.{filled-length}
-use Rattle.session_state.specs.State.{Ready, state_of}
+use Rattle.session_state.specs.Ready.{Ready}
+use Rattle.session_state.specs.State.{plain_state, state_of}
+use Rattle.session_state.specs.declared.state.State.{State as Held}
 use Rattle.text.specs.Bytes.{Text}
 use Rattle.text.specs.LentSlice.{fits_in, host_fits, host_result, host_slice, listing_in, most_bytes, slice_after, state_after}
 use Rattle.text.specs.Session.{State, fresh, session}
 use Rattle.text.specs.Tables.{Tables, no_names}
 use Rattle.session_run.specs.Ran.{Ran}
-use Rattle.svcd.specs.Reached.{Leaves, SessionCall, answer_of, length_of, state_in}
+use Rattle.svcd.specs.Reached.{Leaves, SessionCall, answer_of, fits, len, length_of}
 
 -- ---- the listing
 
@@ -95,16 +98,15 @@ module _ {t : Text} {old new : List ℕ} {fits : Bool} {n : ℕ} {s : State} (l 
   answers_22 z = sym (if-false _ _ _ (sym l.fits_is ∙ z))
 
 -- all that it gives back
-pub called : {t : Text} {old new : List ℕ} {fits : Bool} {n a : ℕ} {c v f i ss ns : List ℕ}
-    → Leaves t old new fits n (state_of ss ns c v f i) → a ≡ answer_of old t → Ready ss ns c v f i
-    → SessionCall t old new (record {
-      answer = a;
-      len = n;
-      book = record { sets = ss; numbers = ns };
-      names = record { comps = c; vers = v; facs = f; impls = i };
-    })
-unfolding state_in
-called l a r = record { answer = a; len = l.length_is; slice = l.slice; state = l.state; ready = r }
+module _ {t : Text} {old new : List ℕ} {s : Held} where
+  called_as : (o : Option ℕ) → Leaves t old new (fits o) (len o) (plain_state s)
+      → SessionCall t old new (record { answer = ok_or o DoesNotFit; state = s })
+  called_as (Some n) l = record { answer = answers_0 l refl; len = l.length_is; slice = l.slice; state = l.state }
+  called_as None l = record { answer = answers_22 l refl; len = l.length_is; slice = l.slice; state = l.state }
+
+  pub called : (o : Option ℕ) {a : Result ℕ Refusal} → Leaves t old new (fits o) (len o) (plain_state s) → a ≡ ok_or o DoesNotFit
+      → SessionCall t old new (record { answer = a; state = s })
+  called o l e = subst (λ (x : Result ℕ Refusal). SessionCall t old new (record { answer = x; state = s })) (sym e) (called_as o l)
 
 -- ---- the host's call
 
@@ -125,6 +127,11 @@ module _ (t : Text) (old : List ℕ) where
       → (negsuc 21 ≡ host_result old t) × (z ≡ host_slice old t)
   unfolding host_fits
   long_slice h g = refused (and-true _ _ (≤?_in _ _ h) ∙ and-false _ _ (beyond _ _ g))
+
+  pub long_call : {z : List ℕ} → (most_bytes < length t) ⊎ ((length t ≤ most_bytes) × (most_bytes < length old)) → z ≡ replicate (length old) 0
+      → (negsuc 21 ≡ host_result old t) × (z ≡ host_slice old t)
+  long_call (inl h) e = long_text h e
+  long_call (inr h) e = long_slice h.0 h.1 e
 
   module _ (h : length t ≤ most_bytes) (g : length old ≤ most_bytes) {new : List ℕ} {fits : Bool} {n : ℕ} {s : State}
       (l : Leaves t old new fits n s) where

@@ -1,10 +1,11 @@
 -- What a session leaves (document 01, "Text and session"): the listing in the slice, and the state as reached.
-use Rattle.std.specs.Prelude.{Bool, List, ◌≡◌, ℕ, length}
+use Rattle.std.specs.Prelude.{Bool, None, Option, Some, false, true, List, ◌≡◌, ℕ, length}
+use Rattle.refusal.specs.Numbers.{code, found}
 use Rattle.sets.specs.Tests.{if?◌then◌else◌}
 use Rattle.text.specs.Bytes.{Text}
 use Rattle.text.specs.LentSlice.{fits_in, slice_after, state_after}
 use Rattle.text.specs.Session.{State, session}
-use Rattle.session_state.specs.State.{Ready, state_of}
+use Rattle.session_state.specs.State.{plain_state}
 use Rattle.svcd.specs.declared.SessionEnd.{SessionEnd}
 
 -- "A listing longer than the slice gives 22 and a slice of zeros."
@@ -22,15 +23,20 @@ pub record Leaves (t : Text) (old new : List ℕ) (fits : Bool) (n : ℕ) (s : S
   pub slice : new ≡ slice_after old t
   pub state : s ≡ state_after old t
 
--- the state that is handed back
-unfoldable pub state_in : SessionEnd → State
-state_in r = state_of r.book.sets r.book.numbers r.names.comps r.names.vers r.names.facs r.names.impls
+-- whether the listing fits, by its length that is given back
+abbrev pub fits : Option ℕ → Bool
+fits (Some n) = true
+fits None = false
+
+-- and how many bytes it has
+abbrev pub len : Option ℕ → ℕ
+len (Some n) = n
+len None = 0
 
 -- What the library's session on the text t gives back, and the slice then: 0 with the listing's length, or 22. "The library's session also
 -- hands back its book and tables as reached; after 22 both are empty."
 pub record SessionCall (t : Text) (old new : List ℕ) (r : SessionEnd) : Type 0 where
-  pub answer : r.answer ≡ answer_of old t
-  pub len : r.len ≡ length_of old t
+  pub answer : code r.answer ≡ answer_of old t
+  pub len : found r.answer ≡ length_of old t
   pub slice : new ≡ slice_after old t
-  pub state : state_in r ≡ state_after old t
-  pub ready : Ready r.book.sets r.book.numbers r.names.comps r.names.vers r.names.facs r.names.impls
+  pub state : plain_state r.state ≡ state_after old t

@@ -97,8 +97,8 @@ fn damaged(rt: &HostRuntime) -> io::Result<()> {
 // The rows that CHOICE of hold finds.
 fn choice(rt: &HostRuntime, b: Book) -> io::Result<()> {
     let mut rows = [0; 3];
-    let found = queries::choice(b, HOLD, &mut rows);
-    println!(rt; "choice of hold, rows {}", found.rows)?;
+    let found = queries::choice(&b, HOLD, &mut rows);
+    println!(rt; "choice of hold, rows {}", found.unwrap_or(0))?;
     let [first, second, past] = rows;
     println!(rt; "the first {first}")?;
     println!(rt; "the second {second}")?;
@@ -107,12 +107,24 @@ fn choice(rt: &HostRuntime, b: Book) -> io::Result<()> {
 
 // The queries, of a component and of the whole book; sets as numbers.
 fn queries_of(rt: &HostRuntime, b: Book) -> io::Result<()> {
-    println!(rt; "supplies of tank {}", queries::supplies(b, TANK).set)?;
-    println!(rt; "needs of tank.a {}", queries::needs(b, TANK, 3).set)?;
-    println!(rt; "standard of loop {}", queries::standard(b, LOOP).version)?;
-    println!(rt; "undefined {}", queries::undefined(b).set)?;
-    println!(rt; "unused {}", queries::unused(b).set)?;
-    println!(rt; "whereused of probe {}", queries::whereused(b, PROBE).set)?;
+    println!(rt;
+        "supplies of tank {}",
+        queries::supplies(&b, TANK).unwrap_or(0)
+    )?;
+    println!(rt;
+        "needs of tank.a {}",
+        queries::needs(&b, TANK, 3).unwrap_or(0)
+    )?;
+    println!(rt;
+        "standard of loop {}",
+        queries::standard(&b, LOOP).unwrap_or(0)
+    )?;
+    println!(rt; "undefined {}", queries::undefined(&b).unwrap_or(0))?;
+    println!(rt; "unused {}", queries::unused(&b).unwrap_or(0))?;
+    println!(rt;
+        "whereused of probe {}",
+        queries::whereused(&b, PROBE).unwrap_or(0)
+    )?;
     choice(rt, b)
 }
 
@@ -124,7 +136,7 @@ fn main(rt: HostRuntime) -> io::Result<()> {
     judged(&rt, "deep book", b)?;
     println!(rt;
         "deep book, needs of the last system {}",
-        queries::needs(b, 31, 0).set
+        queries::needs(&b, 31, 0).unwrap_or(0)
     )?;
     damaged(&rt)
 }

@@ -22,251 +22,238 @@
 // What is not of these forms is reported by a line.
 #![tactic(auto)]
 
-ghost use Rattle.std.specs.Prelude.{◌<◌, ◌≤◌, length};
-
 use book::Book;
-use commands::Outcome;
+use refusal::Refusal;
 use std::io;
 use std::io::Write;
 
-// The largest number of the type.
-const LAST: usize = 18446744073709551615;
+// ---- commands
 
-// The words that begin a line, ten bytes for each.
-const WORDS: [u8; 140] =
-    *b"add-spec  add-mod   add-sys   add-modvaradd-sysvardel-spec  del-mod   del-sys   del-modvardel-sysvarkeep      back      set       number    ";
-
-// Their numbers, behind those of the ten calls.
-const KEEP: usize = 10;
-
-const BACK: usize = 11;
-
-const SET: usize = 12;
-
-const NUMBER: usize = 13;
-
-// No word of the table.
-const OTHER: usize = 14;
-
-// A write that fails is passed over.
-fn write_out(rt: &HostRuntime, text: &[u8]) {
-    let _ = rt.stdout().write_all(text);
+// What a line with a colon asks for.
+#[derive(Clone, Copy)]
+enum Command {
+    Call(Call),
+    Keep,
+    Back,
+    Set,
+    Number,
 }
 
-fn write_decimal(rt: &HostRuntime, n: u64) {
-    let _ = rt.print(n);
+#[derive(Clone, Copy)]
+enum Call {
+    AddSpec,
+    AddMod,
+    AddSys,
+    AddModvar,
+    AddSysvar,
+    DelSpec,
+    DelMod,
+    DelSys,
+    DelModvar,
+    DelSysvar,
 }
 
-fn report(rt: &HostRuntime) {
-    write_out(rt, b"a line that is not of the form\n");
+impl Command {
+    // The command of a name, behind which blanks may stand, up to ten bytes in all.
+    fn named(word: &[u8]) -> Option<Command> {
+        if word.len() > 10 {
+            return None;
+        }
+        let last = word.iter().rposition(|&c| c != b' ')?;
+        let command = match &word[..=last] {
+            b"keep" => Command::Keep,
+            b"back" => Command::Back,
+            b"set" => Command::Set,
+            b"number" => Command::Number,
+            name => Command::Call(Call::named(name)?),
+        };
+        Some(command)
+    }
+
+    // How many semicolons a line of the command has.
+    fn semicolons(self) -> usize {
+        match self {
+            Command::Call(call) => call.semicolons(),
+            Command::Keep | Command::Back => 0,
+            Command::Set | Command::Number => 1,
+        }
+    }
+}
+
+impl Call {
+    fn named(name: &[u8]) -> Option<Call> {
+        let call = match name {
+            b"add-spec" => Call::AddSpec,
+            b"add-mod" => Call::AddMod,
+            b"add-sys" => Call::AddSys,
+            b"add-modvar" => Call::AddModvar,
+            b"add-sysvar" => Call::AddSysvar,
+            b"del-spec" => Call::DelSpec,
+            b"del-mod" => Call::DelMod,
+            b"del-sys" => Call::DelSys,
+            b"del-modvar" => Call::DelModvar,
+            b"del-sysvar" => Call::DelSysvar,
+            _ => return None,
+        };
+        Some(call)
+    }
+
+    fn semicolons(self) -> usize {
+        match self {
+            Call::AddSpec => 4,
+            Call::AddMod => 2,
+            Call::AddSys => 5,
+            Call::AddModvar | Call::AddSysvar => 3,
+            Call::DelSpec | Call::DelMod | Call::DelSys => 0,
+            Call::DelModvar | Call::DelSysvar => 1,
+        }
+    }
 }
 
 // ---- lists of numbers
 
-// What is read of a list: its numbers so far, in both types, and the number that is being read. `before` counts the semicolons that are
-// still to come before the list; behind the list it is more than a line has.
-#[derive(Drop)]
-struct Reading {
-    items: [usize; 16],
-    sets: [u64; 16],
-    n: usize,
-    value: usize,
-    inside: bool,
-    before: usize,
+// How many numbers a list has at most.
+const MOST: usize = 16;
+
+fn report(rt: &HostRuntime) -> io::Result<()> {
+    println!(rt; "a line that is not of the form")
 }
 
-fn digit(rt: &HostRuntime, l: Reading, d: usize) -> Reading {
-    let mut l = l;
-    if d > 9 {
-        report(rt);
-        return l;
+// A number with one more digit: none if the byte is no digit, or the number is too large.
+fn with_digit(number: usize, byte: u8) -> Option<usize> {
+    if !byte.is_ascii_digit() {
+        return None;
     }
-    if l.value > LAST / 10 {
-        report(rt);
-        return l;
-    }
-    let tens = l.value * 10;
-    if d > LAST - tens {
-        report(rt);
-        return l;
-    }
-    l.value = tens + d;
-    l.inside = true;
-    l
+    number
+        .checked_mul(10)?
+        .checked_add(usize::from(byte - b'0'))
 }
 
-fn end_of_number(rt: &HostRuntime, l: Reading) -> Reading {
-    let mut l = l;
-    if !l.inside {
-        return l;
+// The number that the digits of a word make behind those of `before`: none if it has no digit. A byte that is no digit is reported and left
+// out, and so is a digit that makes the number too large.
+fn number_of(rt: &HostRuntime, before: usize, word: &[u8]) -> io::Result<Option<usize>> {
+    let mut number = None;
+    for &byte in word {
+        match with_digit(number.unwrap_or(before), byte) {
+            Some(longer) => number = Some(longer),
+            None => report(rt)?,
+        }
     }
-    l.inside = false;
-    let n = l.n;
-    if n >= 16 {
-        report(rt);
-        return l;
-    }
-    let value = l.value;
-    l.items[n] = value;
-    l.sets[n] = value as u64;
-    l.n = n + 1;
-    l.value = 0;
-    l
+    Ok(number)
 }
 
-fn end_of_list(l: Reading) -> Reading {
-    let mut l = l;
-    if l.before == 0 {
-        l.before = LAST;
-    } else {
-        l.before = l.before - 1;
-    }
-    l
-}
-
-fn read_byte(rt: &HostRuntime, l: Reading, byte: u8) -> Reading {
-    if byte == b';' {
-        return end_of_list(end_of_number(rt, l));
-    }
-    if l.before > 0 {
-        return l;
-    }
-    if byte == b' ' {
-        return end_of_number(rt, l);
-    }
-    if byte < b'0' {
-        report(rt);
-        return l;
-    }
-    digit(rt, l, (byte - b'0') as usize)
-}
-
-// List k of the arguments, from 0.
-fn list(rt: &HostRuntime, args: &[u8], k: usize) -> Reading {
-    let mut l = Reading {
-        items: [0; 16],
-        sets: [0; 16],
-        n: 0,
-        value: 0,
-        inside: false,
-        before: k,
+// List k of the arguments, from 0. A number that a full list has no room for is reported, and the digits of the next number follow its digits.
+fn list(rt: &HostRuntime, args: &[u8], k: usize) -> io::Result<Vec<usize>> {
+    let mut items = Vec::new(rt.alloc());
+    let Some(text) = args.split(|&c| c == b';').nth(k) else {
+        return Ok(items);
     };
-    let mut i = 0;
-    while i < args.len() {
-        l = read_byte(rt, l, args[i]);
-        i += 1;
+    let mut left = 0;
+    for word in text.split(|&c| c == b' ') {
+        let Some(number) = number_of(rt, left, word)? else {
+            continue;
+        };
+        if items.len() < MOST {
+            items.push(number)?;
+        } else {
+            report(rt)?;
+            left = number;
+        }
     }
-    end_of_number(rt, l)
+    Ok(items)
+}
+
+// List k as sets. (`u64` has no `From` of a `usize`.)
+fn sets(rt: &HostRuntime, args: &[u8], k: usize) -> io::Result<Vec<u64>> {
+    let numbers = list(rt, args, k)?;
+    let sets = numbers.iter().map(|&n| n as u64).collect(rt.alloc())?;
+    Ok(sets)
 }
 
 // The number that list k consists of.
-fn number(rt: &HostRuntime, args: &[u8], k: usize) -> usize {
-    let l = list(rt, args, k);
-    if l.n != 1 {
-        report(rt);
+fn number(rt: &HostRuntime, args: &[u8], k: usize) -> io::Result<usize> {
+    let items = list(rt, args, k)?;
+    if items.len() != 1 {
+        report(rt)?;
     }
-    l.items[0]
+    Ok(items.first().copied().unwrap_or(0))
 }
 
-// The first n numbers, as a call takes them.
-fn lent<'a>(items: &'a [usize], n: usize) -> &'a [usize] {
-    if n <= items.len() { &items[..n] } else { items }
-}
-
-fn lent_sets<'a>(sets: &'a [u64], n: usize) -> &'a [u64] {
-    if n <= sets.len() { &sets[..n] } else { sets }
+// The same as a set.
+fn set(rt: &HostRuntime, args: &[u8], k: usize) -> io::Result<u64> {
+    Ok(number(rt, args, k)? as u64)
 }
 
 // ---- the calls
 
-fn add_spec(rt: &HostRuntime, b: Book, args: &[u8]) -> Outcome {
-    let c = number(rt, args, 0);
-    let provided = number(rt, args, 1) as u64;
-    let versions = list(rt, args, 2);
-    let required = list(rt, args, 3);
-    let standard = number(rt, args, 4);
-    let v = lent(&versions.items, versions.n);
-    let r = lent_sets(&required.sets, required.n);
-    commands::add_spec(b, c, provided, v, r, standard)
+type Answer = Result<(), Refusal>;
+
+fn add_spec(rt: &HostRuntime, book: &mut Book, args: &[u8]) -> io::Result<Answer> {
+    let c = number(rt, args, 0)?;
+    let provided = set(rt, args, 1)?;
+    let versions = list(rt, args, 2)?;
+    let required = sets(rt, args, 3)?;
+    let standard = number(rt, args, 4)?;
+    Ok(commands::add_spec(book, c, provided, &versions, &required, standard))
 }
 
-fn add_mod(rt: &HostRuntime, b: Book, args: &[u8]) -> Outcome {
-    let c = number(rt, args, 0);
-    let versions = list(rt, args, 1);
-    let implementations = list(rt, args, 2);
-    let v = lent(&versions.items, versions.n);
-    let i = lent(&implementations.items, implementations.n);
-    commands::add_mod(b, c, v, i)
+fn add_mod(rt: &HostRuntime, book: &mut Book, args: &[u8]) -> io::Result<Answer> {
+    let c = number(rt, args, 0)?;
+    let versions = list(rt, args, 1)?;
+    let implementations = list(rt, args, 2)?;
+    Ok(commands::add_mod(book, c, &versions, &implementations))
 }
 
-fn add_sys(rt: &HostRuntime, b: Book, args: &[u8]) -> Outcome {
-    let c = number(rt, args, 0);
-    let usable = list(rt, args, 1);
-    let versions = list(rt, args, 2);
-    let lengths = list(rt, args, 3);
-    let members = list(rt, args, 4);
-    let chosen = list(rt, args, 5);
-    let u = lent(&usable.items, usable.n);
-    let v = lent(&versions.items, versions.n);
-    let l = lent(&lengths.items, lengths.n);
-    let m = lent(&members.items, members.n);
-    let w = lent(&chosen.items, chosen.n);
-    commands::add_sys(b, c, u, v, l, m, w)
+fn add_sys(rt: &HostRuntime, book: &mut Book, args: &[u8]) -> io::Result<Answer> {
+    let c = number(rt, args, 0)?;
+    let usable = list(rt, args, 1)?;
+    let versions = list(rt, args, 2)?;
+    let lengths = list(rt, args, 3)?;
+    let members = list(rt, args, 4)?;
+    let chosen = list(rt, args, 5)?;
+    Ok(commands::add_sys(book, c, &usable, &versions, &lengths, &members, &chosen))
 }
 
-fn add_modvar(rt: &HostRuntime, b: Book, args: &[u8]) -> Outcome {
-    let c = number(rt, args, 0);
-    let v = number(rt, args, 1);
-    let required = number(rt, args, 2) as u64;
-    commands::add_modvar(b, c, v, required, number(rt, args, 3))
+fn add_modvar(rt: &HostRuntime, book: &mut Book, args: &[u8]) -> io::Result<Answer> {
+    let c = number(rt, args, 0)?;
+    let v = number(rt, args, 1)?;
+    let required = set(rt, args, 2)?;
+    let implementation = number(rt, args, 3)?;
+    Ok(commands::add_modvar(book, c, v, required, implementation))
 }
 
-fn add_sysvar(rt: &HostRuntime, b: Book, args: &[u8]) -> Outcome {
-    let c = number(rt, args, 0);
-    let v = number(rt, args, 1);
-    let members = list(rt, args, 2);
-    let chosen = list(rt, args, 3);
-    let m = lent(&members.items, members.n);
-    let w = lent(&chosen.items, chosen.n);
-    commands::add_sysvar(b, c, v, m, w)
+fn add_sysvar(rt: &HostRuntime, book: &mut Book, args: &[u8]) -> io::Result<Answer> {
+    let c = number(rt, args, 0)?;
+    let v = number(rt, args, 1)?;
+    let members = list(rt, args, 2)?;
+    let chosen = list(rt, args, 3)?;
+    Ok(commands::add_sysvar(book, c, v, &members, &chosen))
 }
 
-// The adding call of a number.
-fn add(rt: &HostRuntime, command: usize, b: Book, args: &[u8]) -> Outcome {
-    match command {
-        0 => add_spec(rt, b, args),
-        1 => add_mod(rt, b, args),
-        2 => add_sys(rt, b, args),
-        3 => add_modvar(rt, b, args),
-        _ => add_sysvar(rt, b, args),
+fn make(rt: &HostRuntime, call: Call, book: &mut Book, args: &[u8]) -> io::Result<Answer> {
+    match call {
+        Call::AddSpec => add_spec(rt, book, args),
+        Call::AddMod => add_mod(rt, book, args),
+        Call::AddSys => add_sys(rt, book, args),
+        Call::AddModvar => add_modvar(rt, book, args),
+        Call::AddSysvar => add_sysvar(rt, book, args),
+        Call::DelSpec => Ok(commands::del_spec(book, number(rt, args, 0)?)),
+        Call::DelMod => Ok(commands::del_mod(book, number(rt, args, 0)?)),
+        Call::DelSys => Ok(commands::del_sys(book, number(rt, args, 0)?)),
+        Call::DelModvar => {
+            let c = number(rt, args, 0)?;
+            Ok(commands::del_modvar(book, c, number(rt, args, 1)?))
+        }
+        Call::DelSysvar => {
+            let c = number(rt, args, 0)?;
+            Ok(commands::del_sysvar(book, c, number(rt, args, 1)?))
+        }
     }
 }
 
-// The deleting call of a number.
-fn delete(rt: &HostRuntime, command: usize, b: Book, args: &[u8]) -> Outcome {
-    let c = number(rt, args, 0);
-    match command {
-        5 => commands::del_spec(b, c),
-        6 => commands::del_mod(b, c),
-        7 => commands::del_sys(b, c),
-        8 => commands::del_modvar(b, c, number(rt, args, 1)),
-        _ => commands::del_sysvar(b, c, number(rt, args, 1)),
-    }
-}
-
-fn call(rt: &HostRuntime, command: usize, b: Book, args: &[u8]) -> Outcome {
-    if command < 5 {
-        return add(rt, command, b, args);
-    }
-    delete(rt, command, b, args)
-}
-
-fn told(rt: &HostRuntime, words: &[u8], o: Outcome) -> Book {
-    write_out(rt, words);
-    write_out(rt, b": ");
-    write_decimal(rt, o.answer as u64);
-    write_out(rt, b"\n");
-    o.book
+fn tell(rt: &HostRuntime, words: &[u8], answer: Answer) -> io::Result<()> {
+    rt.stdout().write_all(words)?;
+    println!(rt; ": {}", refusal::code(answer))
 }
 
 // ---- the Book, and what else is done with it
@@ -275,189 +262,89 @@ fn told(rt: &HostRuntime, words: &[u8], o: Outcome) -> Book {
 #[derive(Clone, Copy)]
 struct Books {
     book: Book,
-    first: Book,
-    second: Book,
+    kept: [Book; 2],
 }
 
-fn keep(rt: &HostRuntime, books: Books, place: usize) -> Books {
-    let mut books = books;
-    let book = books.book;
-    match place {
-        0 => books.first = book,
-        1 => books.second = book,
-        _ => report(rt),
+// Each does nothing, and gives None, where there is no such place or the value is too large for it.
+impl Books {
+    fn keep(&mut self, place: usize) -> Option<()> {
+        *self.kept.get_mut(place)? = self.book;
+        Some(())
     }
-    books
-}
 
-fn kept(rt: &HostRuntime, books: Books, place: usize) -> Book {
-    match place {
-        0 => books.first,
-        1 => books.second,
-        _ => {
-            report(rt);
-            books.book
-        }
+    fn go_back(&mut self, place: usize) -> Option<()> {
+        self.book = *self.kept.get(place)?;
+        Some(())
     }
-}
 
-fn with_set(rt: &HostRuntime, b: Book, place: usize, value: usize) -> Book {
-    let mut b = b;
-    if place < 576 {
-        b.sets[place] = value as u64;
-    } else {
-        report(rt);
+    fn write_set(&mut self, place: usize, value: u64) -> Option<()> {
+        *self.book.sets.get_mut(place)? = value;
+        Some(())
     }
-    b
-}
 
-fn with_number(rt: &HostRuntime, b: Book, place: usize, value: usize) -> Book {
-    let mut b = b;
-    if place >= 8768 {
-        report(rt);
-        return b;
-    }
-    if value >= 256 {
-        report(rt);
-        return b;
-    }
-    b.numbers[place] = value as u8;
-    b
-}
-
-// The Book after a line.
-fn after(rt: &HostRuntime, command: usize, books: Books, words: &[u8], args: &[u8]) -> Book {
-    match command {
-        BACK => kept(rt, books, number(rt, args, 0)),
-        SET => with_set(rt, books.book, number(rt, args, 0), number(rt, args, 1)),
-        NUMBER => with_number(rt, books.book, number(rt, args, 0), number(rt, args, 1)),
-        _ => told(rt, words, call(rt, command, books.book, args)),
+    fn write_number(&mut self, place: usize, value: usize) -> Option<()> {
+        let byte = u8::try_from(value).ok()?;
+        *self.book.numbers.get_mut(place)? = byte;
+        Some(())
     }
 }
 
 // ---- lines
 
-// The first place of a byte from `at` on, or the end of the text.
-fn place_of(text: &[u8], at: usize, byte: u8) -> usize
-    requires { at ≤ length text.now }
-    ensures { (at ≤ result) × (result ≤ length text.now) }
-{
-    let mut i = at;
-    while i < text.len() {
-        if text[i] == byte {
-            return i;
-        }
-        i += 1;
-    }
-    i
-}
-
-fn letter(word: &[u8], i: usize) -> u8 {
-    if i < word.len() { word[i] } else { b' ' }
-}
-
-fn is_word(word: &[u8], k: usize) -> bool
-    requires { k < 14 }
-{
-    for i in 0..10 {
-        if letter(word, i) != WORDS[k * 10 + i] {
-            return false;
-        }
-    }
-    word.len() <= 10
-}
-
-fn command_of(word: &[u8]) -> usize {
-    for k in 0..14 {
-        if is_word(word, k) {
-            return k;
-        }
-    }
-    OTHER
-}
-
-// How many semicolons a line of the command has.
-fn semicolons_of(command: usize) -> usize {
-    match command {
-        0 => 4,
-        1 => 2,
-        2 => 5,
-        3 | 4 => 3,
-        8 | 9 | SET | NUMBER => 1,
-        _ => 0,
-    }
-}
-
-fn semicolons(args: &[u8]) -> usize {
-    let mut n = 0;
-    let mut i = 0;
-    while i < args.len() {
-        if args[i] == b';' {
-            n += 1;
-        }
-        i += 1;
-    }
-    n
-}
-
 // A line with a colon.
-fn carry_out(rt: &HostRuntime, books: Books, words: &[u8], args: &[u8]) -> Books {
-    let mut books = books;
-    let end = place_of(words, 0, b',');
-    let command = command_of(&words[..end]);
-    if (command == OTHER) | (semicolons(args) != semicolons_of(command)) {
-        report(rt);
-        return books;
+fn carry_out(rt: &HostRuntime, books: &mut Books, words: &[u8], args: &[u8]) -> io::Result<()> {
+    let end = words.iter().position(|&c| c == b',').unwrap_or(words.len());
+    let Some(command) = Command::named(&words[..end]) else {
+        return report(rt);
+    };
+    if args.iter().filter(|&&c| c == b';').count() != command.semicolons() {
+        return report(rt);
     }
-    if command == KEEP {
-        return keep(rt, books, number(rt, args, 0));
+    let done = match command {
+        Command::Call(call) => {
+            let answer = make(rt, call, &mut books.book, args)?;
+            return tell(rt, words, answer);
+        }
+        Command::Keep => books.keep(number(rt, args, 0)?),
+        Command::Back => books.go_back(number(rt, args, 0)?),
+        Command::Set => books.write_set(number(rt, args, 0)?, set(rt, args, 1)?),
+        Command::Number => books.write_number(number(rt, args, 0)?, number(rt, args, 1)?),
+    };
+    match done {
+        Some(()) => Ok(()),
+        None => report(rt),
     }
-    let book = after(rt, command, books, words, args);
-    books.book = book;
-    books
 }
 
-fn print_heading(rt: &HostRuntime, line: &[u8]) {
-    write_out(rt, line);
-    write_out(rt, b"\n");
+fn print_heading(rt: &HostRuntime, line: &[u8]) -> io::Result<()> {
+    rt.stdout().write_all(line)?;
+    println!(rt)
 }
 
-fn do_line(rt: &HostRuntime, books: Books, line: &[u8]) -> Books {
-    if letter(line, 0) == b'#' {
-        return books;
+fn do_line(rt: &HostRuntime, books: &mut Books, line: &[u8]) -> io::Result<()> {
+    if line.is_empty() || line.starts_with(b"#") {
+        return Ok(());
     }
-    let colon = place_of(line, 0, b':');
-    if colon < line.len() {
-        let from = colon + 1;
-        return carry_out(rt, books, &line[..colon], &line[from..]);
-    }
-    if line.len() > 0 {
-        print_heading(rt, line);
-    }
-    books
+    let Some(colon) = line.iter().position(|&c| c == b':') else {
+        return print_heading(rt, line);
+    };
+    carry_out(rt, books, &line[..colon], &line[colon + 1..])
 }
 
-fn do_lines(rt: &HostRuntime, input: &[u8]) {
+fn do_lines(rt: &HostRuntime, input: &[u8]) -> io::Result<()> {
     let fresh = Book::fresh();
     let mut books = Books {
         book: fresh,
-        first: fresh,
-        second: fresh,
+        kept: [fresh; 2],
     };
-    let mut at = 0;
-    loop {
-        let end = place_of(input, at, b'\n');
-        books = do_line(rt, books, &input[at..end]);
-        if end == input.len() {
-            return;
-        }
-        at = end + 1;
+    for line in input.split(|&c| c == b'\n') {
+        do_line(rt, &mut books, line)?;
     }
+    Ok(())
 }
 
 fn main(rt: HostRuntime) -> io::Result<()> {
     let mut input = [0u8; 65536];
     let n = input::fill(&mut rt.stdin(), &mut input)?;
-    do_lines(&rt, &input[..n]);
-    Ok(())
+    do_lines(&rt, &input[..n])
 }

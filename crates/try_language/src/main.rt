@@ -3,16 +3,15 @@
 // their names from command to command. `stdout` was written from document 01.
 #![tactic(auto)]
 
-ghost use Rattle.std.specs.Prelude.{false, ◌≡◌, ◌≤◌, length, IfOk};
+ghost use Rattle.std.specs.Prelude.{◌≡◌, length};
 ghost use Rattle.model.specs.Book.{components, facilities, implementations, versions};
 ghost use Rattle.read_tokens.specs.Entering.{Kept};
-ghost use Rattle.try_language.specs.Inside.{Inside};
 
 use command_lists::{Compositions, Numbers, Sets};
 use read_command::{
     Command, Component, Form, Known, Named, OfBook, OfComponent, OfVersion, Query, Version,
 };
-use read_tokens::{ModRequest, ModvarRequest, SpecRequest, Step, SysRequest, SysvarRequest};
+use read_tokens::{ModRequest, ModvarRequest, Reader, SpecRequest, SysRequest, SysvarRequest};
 use std::io;
 use std::io::Write;
 
@@ -98,14 +97,11 @@ fn print_requirements(rt: &HostRuntime, versions: &Sets) -> io::Result<()> {
     Ok(())
 }
 
-fn print_spec(rt: &HostRuntime, head: Head, r: &SpecRequest) -> io::Result<()> {
-    if !r.there {
-        return Ok(());
-    }
+fn print_spec(rt: &HostRuntime, head: Head, end: usize, r: &SpecRequest) -> io::Result<()> {
     if !r.room {
-        return print_no_place(rt, head, r.end);
+        return print_no_place(rt, head, end);
     }
-    print_command(rt, head, r.end)?;
+    print_command(rt, head, end)?;
     print!(rt; ": c{} provides", r.component)?;
     print_set(rt, r.provided)?;
     print_requirements(rt, &r.versions)?;
@@ -123,14 +119,11 @@ fn print_implementations(rt: &HostRuntime, versions: &Numbers) -> io::Result<()>
     Ok(())
 }
 
-fn print_mod(rt: &HostRuntime, head: Head, r: &ModRequest) -> io::Result<()> {
-    if !r.there {
-        return Ok(());
-    }
+fn print_mod(rt: &HostRuntime, head: Head, end: usize, r: &ModRequest) -> io::Result<()> {
     if !r.room {
-        return print_no_place(rt, head, r.end);
+        return print_no_place(rt, head, end);
     }
-    print_command(rt, head, r.end)?;
+    print_command(rt, head, end)?;
     print!(rt; ": c{}", r.component)?;
     print_implementations(rt, &r.versions)?;
     print_twice(rt, r.versions.twice)?;
@@ -162,14 +155,11 @@ fn print_compositions(rt: &HostRuntime, versions: &Compositions) -> io::Result<(
     Ok(())
 }
 
-fn print_sys(rt: &HostRuntime, head: Head, r: &SysRequest) -> io::Result<()> {
-    if !r.there {
-        return Ok(());
-    }
+fn print_sys(rt: &HostRuntime, head: Head, end: usize, r: &SysRequest) -> io::Result<()> {
     if !r.room {
-        return print_no_place(rt, head, r.end);
+        return print_no_place(rt, head, end);
     }
-    print_command(rt, head, r.end)?;
+    print_command(rt, head, end)?;
     print!(rt; ": c{} use", r.component)?;
     print_set(rt, r.usable.set)?;
     print_twice(rt, r.usable.twice)?;
@@ -178,38 +168,29 @@ fn print_sys(rt: &HostRuntime, head: Head, r: &SysRequest) -> io::Result<()> {
     println!(rt)
 }
 
-fn print_modvar(rt: &HostRuntime, head: Head, r: &ModvarRequest) -> io::Result<()> {
-    if !r.there {
-        return Ok(());
-    }
+fn print_modvar(rt: &HostRuntime, head: Head, end: usize, r: &ModvarRequest) -> io::Result<()> {
     if !r.room {
-        return print_no_place(rt, head, r.end);
+        return print_no_place(rt, head, end);
     }
-    print_command(rt, head, r.end)?;
+    print_command(rt, head, end)?;
     print!(rt; ": c{}.v{} requires", r.component, r.version)?;
     print_set(rt, r.required)?;
     println!(rt; " impl {}", r.implementation)
 }
 
-fn print_sysvar(rt: &HostRuntime, head: Head, r: &SysvarRequest) -> io::Result<()> {
-    if !r.there {
-        return Ok(());
-    }
+fn print_sysvar(rt: &HostRuntime, head: Head, end: usize, r: &SysvarRequest) -> io::Result<()> {
     if !r.room {
-        return print_no_place(rt, head, r.end);
+        return print_no_place(rt, head, end);
     }
-    print_command(rt, head, r.end)?;
+    print_command(rt, head, end)?;
     print!(rt; ": c{}.v{} =", r.component, r.version)?;
     print_members(rt, r.composition.members, &r.composition.versions)?;
     print_twice(rt, r.composition.twice)?;
     println!(rt)
 }
 
-fn print_choice(rt: &HostRuntime, head: Head, r: Known) -> io::Result<()> {
-    if !r.there {
-        return Ok(());
-    }
-    print_command(rt, head, r.end)?;
+fn print_choice(rt: &HostRuntime, head: Head, end: usize, r: Known) -> io::Result<()> {
+    print_command(rt, head, end)?;
     if !r.known {
         return println!(rt; ": a name without a number");
     }
@@ -218,17 +199,7 @@ fn print_choice(rt: &HostRuntime, head: Head, r: Known) -> io::Result<()> {
     println!(rt)
 }
 
-// ---- a command, from behind its first word
-
-// Nothing was read.
-fn none(at: usize) -> Step
-    ensures { (result.there ≡ false) × (result.end ≡ at) }
-{
-    Step {
-        there: false,
-        end: at,
-    }
-}
+// ---- a command, from behind its first word: whether it is of the language
 
 fn spec(
     rt: &HostRuntime,
@@ -236,24 +207,20 @@ fn spec(
     comps: &mut [u8],
     vers: &mut [u8],
     facs: &mut [u8],
-    text: &[u8],
-    at: usize,
-) -> io::Result<Step>
+    reader: &mut Reader<'_>,
+) -> io::Result<bool>
     requires kept { Kept components comps.old }
     requires kept_2 { Kept versions vers.old }
     requires kept_3 { Kept facilities facs.old }
-    requires at_in_bounds { at ≤ length text.now }
     ensures kept_4 { Kept components comps.new }
     ensures kept_5 { Kept versions vers.new }
     ensures kept_6 { Kept facilities facs.new }
-    ensures inside { IfOk result (λ s. Inside text.now s.there s.end) }
 {
-    let r = read_spec::read_spec(comps, vers, facs, text, at);
-    print_spec(rt, head, &r)?;
-    Ok(Step {
-        there: r.there,
-        end: r.end,
-    })
+    let Some(r) = read_spec::read_spec(comps, vers, facs, reader) else {
+        return Ok(false);
+    };
+    print_spec(rt, head, reader.at, &r)?;
+    Ok(true)
 }
 
 fn module(
@@ -262,24 +229,20 @@ fn module(
     comps: &mut [u8],
     vers: &mut [u8],
     impls: &mut [u8],
-    text: &[u8],
-    at: usize,
-) -> io::Result<Step>
+    reader: &mut Reader<'_>,
+) -> io::Result<bool>
     requires kept { Kept components comps.old }
     requires kept_2 { Kept versions vers.old }
     requires kept_3 { Kept implementations impls.old }
-    requires at_in_bounds { at ≤ length text.now }
     ensures kept_4 { Kept components comps.new }
     ensures kept_5 { Kept versions vers.new }
     ensures kept_6 { Kept implementations impls.new }
-    ensures inside { IfOk result (λ s. Inside text.now s.there s.end) }
 {
-    let r = read_mod::read_mod(comps, vers, impls, text, at);
-    print_mod(rt, head, &r)?;
-    Ok(Step {
-        there: r.there,
-        end: r.end,
-    })
+    let Some(r) = read_mod::read_mod(comps, vers, impls, reader) else {
+        return Ok(false);
+    };
+    print_mod(rt, head, reader.at, &r)?;
+    Ok(true)
 }
 
 fn system(
@@ -287,22 +250,18 @@ fn system(
     head: Head,
     comps: &mut [u8],
     vers: &mut [u8],
-    text: &[u8],
-    at: usize,
-) -> io::Result<Step>
+    reader: &mut Reader<'_>,
+) -> io::Result<bool>
     requires kept { Kept components comps.old }
     requires kept_2 { Kept versions vers.old }
-    requires at_in_bounds { at ≤ length text.now }
     ensures kept_3 { Kept components comps.new }
     ensures kept_4 { Kept versions vers.new }
-    ensures inside { IfOk result (λ s. Inside text.now s.there s.end) }
 {
-    let r = read_sys::read_sys(comps, vers, text, at);
-    print_sys(rt, head, &r)?;
-    Ok(Step {
-        there: r.there,
-        end: r.end,
-    })
+    let Some(r) = read_sys::read_sys(comps, vers, reader) else {
+        return Ok(false);
+    };
+    print_sys(rt, head, reader.at, &r)?;
+    Ok(true)
 }
 
 fn modvar(
@@ -312,26 +271,22 @@ fn modvar(
     vers: &mut [u8],
     facs: &mut [u8],
     impls: &mut [u8],
-    text: &[u8],
-    at: usize,
-) -> io::Result<Step>
+    reader: &mut Reader<'_>,
+) -> io::Result<bool>
     requires kept { Kept components comps.old }
     requires kept_2 { Kept versions vers.old }
     requires kept_3 { Kept facilities facs.old }
     requires kept_4 { Kept implementations impls.old }
-    requires at_in_bounds { at ≤ length text.now }
     ensures kept_5 { Kept components comps.new }
     ensures kept_6 { Kept versions vers.new }
     ensures kept_7 { Kept facilities facs.new }
     ensures kept_8 { Kept implementations impls.new }
-    ensures inside { IfOk result (λ s. Inside text.now s.there s.end) }
 {
-    let r = read_mod::read_modvar(comps, vers, facs, impls, text, at);
-    print_modvar(rt, head, &r)?;
-    Ok(Step {
-        there: r.there,
-        end: r.end,
-    })
+    let Some(r) = read_mod::read_modvar(comps, vers, facs, impls, reader) else {
+        return Ok(false);
+    };
+    print_modvar(rt, head, reader.at, &r)?;
+    Ok(true)
 }
 
 fn sysvar(
@@ -339,87 +294,61 @@ fn sysvar(
     head: Head,
     comps: &mut [u8],
     vers: &mut [u8],
-    text: &[u8],
-    at: usize,
-) -> io::Result<Step>
+    reader: &mut Reader<'_>,
+) -> io::Result<bool>
     requires kept { Kept components comps.old }
     requires kept_2 { Kept versions vers.old }
-    requires at_in_bounds { at ≤ length text.now }
     ensures kept_3 { Kept components comps.new }
     ensures kept_4 { Kept versions vers.new }
-    ensures inside { IfOk result (λ s. Inside text.now s.there s.end) }
 {
-    let r = read_sys::read_sysvar(comps, vers, text, at);
-    print_sysvar(rt, head, &r)?;
-    Ok(Step {
-        there: r.there,
-        end: r.end,
-    })
+    let Some(r) = read_sys::read_sysvar(comps, vers, reader) else {
+        return Ok(false);
+    };
+    print_sysvar(rt, head, reader.at, &r)?;
+    Ok(true)
 }
 
-fn choice(rt: &HostRuntime, head: Head, facs: &[u8], text: &[u8], at: usize) -> io::Result<Step>
-    requires kept { Kept facilities facs.now }
-    requires at_in_bounds { at ≤ length text.now }
-    ensures { IfOk result (λ s. Inside text.now s.there s.end) }
+fn choice(rt: &HostRuntime, head: Head, facs: &[u8], reader: &mut Reader<'_>) -> io::Result<bool>
+    requires { Kept facilities facs.now }
 {
-    let r = read_command::read_choice(facs, text, at);
-    print_choice(rt, head, r)?;
-    Ok(Step {
-        there: r.there,
-        end: r.end,
-    })
+    let Some(r) = read_command::read_choice(facs, reader) else {
+        return Ok(false);
+    };
+    print_choice(rt, head, reader.at, r)?;
+    Ok(true)
 }
 
 // A command of one component: its name, as the part of the text.
-fn one(rt: &HostRuntime, head: Head, text: &[u8], at: usize) -> io::Result<Step>
-    requires { at ≤ length text.now }
-    ensures { IfOk result (λ s. Inside text.now s.there s.end) }
-{
-    let r = read_command::read_one(text, at);
-    if !r.there {
-        return Ok(none(at));
-    }
-    print_command(rt, head, r.end)?;
+fn one(rt: &HostRuntime, head: Head, reader: &mut Reader<'_>) -> io::Result<bool> {
+    let Some(name) = read_command::read_one(reader) else {
+        return Ok(false);
+    };
+    print_command(rt, head, reader.at)?;
     print!(rt; ": ")?;
-    rt.stdout().write_all(words::part(text, r.start, r.end))?;
+    rt.stdout().write_all(name)?;
     println!(rt)?;
-    Ok(Step {
-        there: true,
-        end: r.end,
-    })
+    Ok(true)
 }
 
 // A command of a pair: the two names.
-fn pair(rt: &HostRuntime, head: Head, text: &[u8], at: usize) -> io::Result<Step>
-    requires { at ≤ length text.now }
-    ensures { IfOk result (λ s. Inside text.now s.there s.end) }
-{
-    let r = read_command::read_pair(text, at);
-    if !r.there {
-        return Ok(none(at));
-    }
-    print_command(rt, head, r.to)?;
+fn pair(rt: &HostRuntime, head: Head, reader: &mut Reader<'_>) -> io::Result<bool> {
+    let Some(names) = read_command::read_pair(reader) else {
+        return Ok(false);
+    };
+    print_command(rt, head, reader.at)?;
     print!(rt; ": ")?;
-    rt.stdout().write_all(words::part(text, r.start, r.end))?;
+    rt.stdout().write_all(names.component)?;
     print!(rt; ".")?;
-    rt.stdout().write_all(words::part(text, r.from, r.to))?;
+    rt.stdout().write_all(names.version)?;
     println!(rt)?;
-    Ok(Step {
-        there: true,
-        end: r.to,
-    })
+    Ok(true)
 }
 
 // A command that is its keyword.
-fn alone(rt: &HostRuntime, head: Head, at: usize) -> io::Result<Step>
-    ensures { IfOk result (λ s. s.end ≡ at) }
-{
+fn alone(rt: &HostRuntime, head: Head, at: usize) -> io::Result<bool> {
     print_command(rt, head, at)?;
     println!(rt)?;
-    Ok(Step {
-        there: true,
-        end: at,
-    })
+    Ok(true)
 }
 
 // ---- a command of each form
@@ -433,28 +362,25 @@ fn change(
     vers: &mut [u8],
     facs: &mut [u8],
     impls: &mut [u8],
-    text: &[u8],
-    at: usize,
-) -> io::Result<Step>
+    reader: &mut Reader<'_>,
+) -> io::Result<bool>
     requires kept { Kept components comps.old }
     requires kept_2 { Kept versions vers.old }
     requires kept_3 { Kept facilities facs.old }
     requires kept_4 { Kept implementations impls.old }
-    requires at_in_bounds { at ≤ length text.now }
     ensures kept_5 { Kept components comps.new }
     ensures kept_6 { Kept versions vers.new }
     ensures kept_7 { Kept facilities facs.new }
     ensures kept_8 { Kept implementations impls.new }
-    ensures inside { IfOk result (λ s. Inside text.now s.there s.end) }
 {
     match command {
-        Command::AddSpec => spec(rt, head, comps, vers, facs, text, at),
-        Command::AddMod => module(rt, head, comps, vers, impls, text, at),
-        Command::AddSys => system(rt, head, comps, vers, text, at),
-        Command::AddModvar => modvar(rt, head, comps, vers, facs, impls, text, at),
-        Command::AddSysvar => sysvar(rt, head, comps, vers, text, at),
-        Command::Remove(_) => one(rt, head, text, at),
-        Command::RemoveVersion(_) => pair(rt, head, text, at),
+        Command::AddSpec => spec(rt, head, comps, vers, facs, reader),
+        Command::AddMod => module(rt, head, comps, vers, impls, reader),
+        Command::AddSys => system(rt, head, comps, vers, reader),
+        Command::AddModvar => modvar(rt, head, comps, vers, facs, impls, reader),
+        Command::AddSysvar => sysvar(rt, head, comps, vers, reader),
+        Command::Remove(_) => one(rt, head, reader),
+        Command::RemoveVersion(_) => pair(rt, head, reader),
     }
 }
 
@@ -464,32 +390,29 @@ fn ask(
     head: Head,
     query: Query,
     facs: &[u8],
-    text: &[u8],
-    at: usize,
-) -> io::Result<Step>
-    requires kept { Kept facilities facs.now }
-    requires at_in_bounds { at ≤ length text.now }
-    ensures { IfOk result (λ s. Inside text.now s.there s.end) }
+    reader: &mut Reader<'_>,
+) -> io::Result<bool>
+    requires { Kept facilities facs.now }
 {
     match query {
-        Query::ByName(Named::One(_)) => one(rt, head, text, at),
-        Query::ByName(Named::Pair(_)) => pair(rt, head, text, at),
-        Query::Choice => choice(rt, head, facs, text, at),
-        Query::Whole(_) => alone(rt, head, at),
+        Query::ByName(Named::One(_)) => one(rt, head, reader),
+        Query::ByName(Named::Pair(_)) => pair(rt, head, reader),
+        Query::Choice => choice(rt, head, facs, reader),
+        Query::Whole(_) => alone(rt, head, reader.at),
     }
 }
 
 // ---- texts
 
 // "Is the command of the language? no: 23, and the session ends." The position is the one behind the command before it.
-fn tell(rt: &HostRuntime, number: usize, at: usize, there: bool) -> io::Result<()> {
-    if !there {
+fn tell(rt: &HostRuntime, number: usize, at: usize, is_read: bool) -> io::Result<()> {
+    if !is_read {
         println!(rt; "{number} not of the language, 23, from {at}")?;
     }
     Ok(())
 }
 
-// The next command of a text. After "quit", the end of the text, or what is not of the language none is there.
+// The next command of a text: whether another can follow. After "quit", the end of the text, or what is not of the language none does.
 fn print_next(
     rt: &HostRuntime,
     number: usize,
@@ -497,52 +420,44 @@ fn print_next(
     vers: &mut [u8],
     facs: &mut [u8],
     impls: &mut [u8],
-    text: &[u8],
-    at: usize,
-) -> io::Result<Step>
+    reader: &mut Reader<'_>,
+) -> io::Result<bool>
     requires kept { Kept components comps.old }
     requires kept_2 { Kept versions vers.old }
     requires kept_3 { Kept facilities facs.old }
     requires kept_4 { Kept implementations impls.old }
-    requires at_in_bounds { at ≤ length text.now }
     ensures kept_5 { Kept components comps.new }
     ensures kept_6 { Kept versions vers.new }
     ensures kept_7 { Kept facilities facs.new }
     ensures kept_8 { Kept implementations impls.new }
-    ensures inside { IfOk result (λ s. Inside text.now s.there s.end) }
 {
-    let w = read_command::read_command(text, at);
-    match w.form {
-        Form::Changes(command) => {
+    let at = reader.at;
+    let is_read = match read_command::read_command(reader) {
+        Some(Form::Changes(command)) => {
             let head = Head {
                 number,
                 keyword: keyword_of(command),
             };
-            let s = change(rt, head, command, comps, vers, facs, impls, text, w.end)?;
-            tell(rt, number, at, s.there)?;
-            Ok(s)
+            change(rt, head, command, comps, vers, facs, impls, reader)?
         }
-        Form::Asks(query) => {
+        Some(Form::Asks(query)) => {
             let head = Head {
                 number,
                 keyword: query_keyword(query),
             };
-            let s = ask(rt, head, query, facs, text, w.end)?;
-            tell(rt, number, at, s.there)?;
-            Ok(s)
+            ask(rt, head, query, facs, reader)?
         }
-        Form::Over => {
-            println!(rt; "{number} over at {}", w.end)?;
-            Ok(none(at))
+        Some(Form::Over) => {
+            println!(rt; "{number} over at {}", reader.at)?;
+            return Ok(false);
         }
-        Form::Nothing => {
-            tell(rt, number, at, false)?;
-            Ok(none(at))
-        }
-    }
+        None => false,
+    };
+    tell(rt, number, at, is_read)?;
+    Ok(is_read)
 }
 
-// The commands of a text. A command ends behind its start, so the second part of the test says no.
+// The commands of a text. Each takes a byte of it at least.
 fn print_commands(
     rt: &HostRuntime,
     number: usize,
@@ -557,14 +472,13 @@ fn print_commands(
     requires kept_3 { Kept facilities facs.old }
     requires kept_4 { Kept implementations impls.old }
 {
-    let mut at = 0;
-    loop {
-        let s = print_next(rt, number, comps, vers, facs, impls, text, at)?;
-        if !s.there || s.end <= at {
-            return Ok(());
+    let mut reader = Reader::new(text);
+    for _ in 0..=text.len() {
+        if !print_next(rt, number, comps, vers, facs, impls, &mut reader)? {
+            break;
         }
-        at = s.end;
     }
+    Ok(())
 }
 
 fn print_text(rt: &HostRuntime, number: usize, text: &[u8]) -> io::Result<()> {

@@ -3,7 +3,7 @@
 
 use book::Book;
 use command_lists::LEFT_OUT;
-use commands::Outcome;
+use refusal::Refusal;
 use std::io;
 
 // Components of the teaching book.
@@ -31,8 +31,12 @@ const BEFORE: u16 = 2047;
 
 // ---- lines
 
-// A line with a query's answer and the numbers in its set.
-fn show_set(rt: &HostRuntime, text: &str, answer: u8, set: u64) -> io::Result<()> {
+// A line with a query's answer, 0 where it is accepted, and the numbers in its set.
+fn show_set(rt: &HostRuntime, text: &str, found: Result<u64, Refusal>) -> io::Result<()> {
+    let (answer, set) = match found {
+        Ok(set) => (0, set),
+        Err(refusal) => (refusal.number(), 0),
+    };
     print!(rt; "{text}: {answer};")?;
     for n in 0..64 {
         if sets::member(set, n) {
@@ -51,13 +55,16 @@ fn show_parts(
     v: usize,
     out: &mut [u16],
 ) -> io::Result<usize> {
-    let list = parts::parts(b, c, v, out);
-    print!(rt; "{text}: {}, rows {};", list.answer, list.rows)?;
+    let (answer, rows, depth) = match parts::parts(&b, c, v, out) {
+        Ok(list) => (0, list.rows, list.depth),
+        Err(refusal) => (refusal.number(), 0, 0),
+    };
+    print!(rt; "{text}: {answer}, rows {rows};")?;
     for row in out.iter() {
         print!(rt; " {}.{}", row / 64, row % 64)?;
     }
     println!(rt;)?;
-    Ok(list.depth)
+    Ok(depth)
 }
 
 // The same, with a slice of six.
@@ -72,75 +79,84 @@ fn show_depth(rt: &HostRuntime, depth: usize) -> io::Result<()> {
 
 // ---- books, by calls
 
-// The Book that a call leaves, with a line where it refuses.
-fn taken(rt: &HostRuntime, o: Outcome) -> io::Result<Book> {
-    if o.answer != 0 {
-        println!(rt; "refused: {}", o.answer)?;
+// A line where a call refuses.
+fn taken(rt: &HostRuntime, answer: Result<(), Refusal>) -> io::Result<()> {
+    if let Err(refusal) = answer {
+        println!(rt; "refused: {}", refusal.number())?;
     }
-    Ok(o.book)
+    Ok(())
 }
 
-fn told(rt: &HostRuntime, text: &str, o: Outcome) -> io::Result<Book> {
-    println!(rt; "{text}: {}", o.answer)?;
-    Ok(o.book)
+fn told(rt: &HostRuntime, text: &str, answer: Result<(), Refusal>) -> io::Result<()> {
+    println!(rt; "{text}: {}", refusal::code(answer))
 }
 
 // Component c specified with the one version v.
-fn spec(b: Book, c: usize, provided: u64, v: usize, required: u64) -> Outcome {
-    commands::add_spec(b, c, provided, &[v], &[required], v)
+fn spec(book: &mut Book, c: usize, provided: u64, v: usize, required: u64) -> Result<(), Refusal> {
+    commands::add_spec(book, c, provided, &[v], &[required], v)
 }
 
 // Component c defined as a system of one version, with the one member m in version x.
-fn system(b: Book, c: usize, v: usize, m: usize, x: usize) -> Outcome {
-    commands::add_sys(b, c, &[m], &[v], &[1], &[m], &[x])
+fn system(book: &mut Book, c: usize, v: usize, m: usize, x: usize) -> Result<(), Refusal> {
+    commands::add_sys(book, c, &[m], &[v], &[1], &[m], &[x])
 }
 
 // Component c defined as a system of one version, with all that is usable in its standard version.
-fn system_of<const N: usize>(b: Book, c: usize, v: usize, used: &[usize; N]) -> Outcome {
-    commands::add_sys(b, c, used, &[v], &[N], used, &[LEFT_OUT; N])
+fn system_of<const N: usize>(
+    book: &mut Book,
+    c: usize,
+    v: usize,
+    used: &[usize; N],
+) -> Result<(), Refusal> {
+    commands::add_sys(book, c, used, &[v], &[N], used, &[LEFT_OUT; N])
 }
 
 fn teaching(rt: &HostRuntime) -> io::Result<Book> {
-    let b = taken(rt, spec(Book::fresh(), PROBE, TEMP, 0, 0))?;
-    let b = taken(rt, spec(b, VALVE, COOL, 1, TEMP))?;
-    let b = taken(rt, spec(b, LOOP, HOLD, 2, TEMP | COOL))?;
-    let b = taken(rt, spec(b, TANK, HOLD, 3, 0))?;
-    taken(rt, system_of(b, TANK, 3, &[LOOP, PROBE, VALVE]))
+    let mut b = Book::fresh();
+    taken(rt, spec(&mut b, PROBE, TEMP, 0, 0))?;
+    taken(rt, spec(&mut b, VALVE, COOL, 1, TEMP))?;
+    taken(rt, spec(&mut b, LOOP, HOLD, 2, TEMP | COOL))?;
+    taken(rt, spec(&mut b, TANK, HOLD, 3, 0))?;
+    taken(rt, system_of(&mut b, TANK, 3, &[LOOP, PROBE, VALVE]))?;
+    Ok(b)
 }
 
 // Components 3, 7 and 9 have no members; 1 is made of 7, and 0 of 1, 3 and 9.
 fn due(rt: &HostRuntime) -> io::Result<Book> {
-    let b = taken(rt, spec(Book::fresh(), 3, 1, 5, 0))?;
-    let b = taken(rt, spec(b, 7, 2, 5, 0))?;
-    let b = taken(rt, spec(b, 9, 4, 5, 0))?;
-    let b = taken(rt, spec(b, 1, 2, 5, 0))?;
-    let b = taken(rt, system_of(b, 1, 5, &[7]))?;
-    let b = taken(rt, spec(b, 0, 7, 5, 0))?;
-    taken(rt, system_of(b, 0, 5, &[9, 1, 3]))
+    let mut b = Book::fresh();
+    taken(rt, spec(&mut b, 3, 1, 5, 0))?;
+    taken(rt, spec(&mut b, 7, 2, 5, 0))?;
+    taken(rt, spec(&mut b, 9, 4, 5, 0))?;
+    taken(rt, spec(&mut b, 1, 2, 5, 0))?;
+    taken(rt, system_of(&mut b, 1, 5, &[7]))?;
+    taken(rt, spec(&mut b, 0, 7, 5, 0))?;
+    taken(rt, system_of(&mut b, 0, 5, &[9, 1, 3]))?;
+    Ok(b)
 }
 
 // Component 2 has the versions 9, its standard one, and 4. 5 is made of 2.9, 6 and 7 of 2.4, and 0 of the three.
 fn shared(rt: &HostRuntime) -> io::Result<Book> {
-    let b = taken(
-        rt,
-        commands::add_spec(Book::fresh(), 2, 7, &[9, 4], &[0, 0], 9),
-    )?;
-    let b = taken(rt, spec(b, 5, 1, 1, 0))?;
-    let b = taken(rt, system_of(b, 5, 1, &[2]))?;
-    let b = taken(rt, spec(b, 6, 2, 1, 0))?;
-    let b = taken(rt, system(b, 6, 1, 2, 4))?;
-    let b = taken(rt, spec(b, 7, 4, 1, 0))?;
-    let b = taken(rt, system(b, 7, 1, 2, 4))?;
-    let b = taken(rt, spec(b, 0, 7, 1, 0))?;
-    taken(rt, system_of(b, 0, 1, &[5, 6, 7]))
+    let mut b = Book::fresh();
+    taken(rt, commands::add_spec(&mut b, 2, 7, &[9, 4], &[0, 0], 9))?;
+    taken(rt, spec(&mut b, 5, 1, 1, 0))?;
+    taken(rt, system_of(&mut b, 5, 1, &[2]))?;
+    taken(rt, spec(&mut b, 6, 2, 1, 0))?;
+    taken(rt, system(&mut b, 6, 1, 2, 4))?;
+    taken(rt, spec(&mut b, 7, 4, 1, 0))?;
+    taken(rt, system(&mut b, 7, 1, 2, 4))?;
+    taken(rt, spec(&mut b, 0, 7, 1, 0))?;
+    taken(rt, system_of(&mut b, 0, 1, &[5, 6, 7]))?;
+    Ok(b)
 }
 
 // Four components provide a facility each and require the other three.
 fn four(rt: &HostRuntime) -> io::Result<Book> {
-    let b = taken(rt, spec(Book::fresh(), 0, 1, 0, 14))?;
-    let b = taken(rt, spec(b, 1, 2, 0, 13))?;
-    let b = taken(rt, spec(b, 2, 4, 0, 11))?;
-    taken(rt, spec(b, 3, 8, 0, 7))
+    let mut b = Book::fresh();
+    taken(rt, spec(&mut b, 0, 1, 0, 14))?;
+    taken(rt, spec(&mut b, 1, 2, 0, 13))?;
+    taken(rt, spec(&mut b, 2, 4, 0, 11))?;
+    taken(rt, spec(&mut b, 3, 8, 0, 7))?;
+    Ok(b)
 }
 
 // Over the four, 28 systems: component i + 4 provides the facility of component i, and is made of the four components before it. A
@@ -148,8 +164,8 @@ fn four(rt: &HostRuntime) -> io::Result<Book> {
 fn deep(rt: &HostRuntime) -> io::Result<Book> {
     let mut b = four(rt)?;
     for i in 0..28 {
-        b = taken(rt, spec(b, i + 4, sets::with(0, i % 4), 0, 0))?;
-        b = taken(rt, system_of(b, i + 4, 0, &[i, i + 1, i + 2, i + 3]))?;
+        taken(rt, spec(&mut b, i + 4, sets::with(0, i % 4), 0, 0))?;
+        taken(rt, system_of(&mut b, i + 4, 0, &[i, i + 1, i + 2, i + 3]))?;
     }
     Ok(b)
 }
@@ -158,30 +174,32 @@ fn deep(rt: &HostRuntime) -> io::Result<Book> {
 
 fn table(rt: &HostRuntime, k: Book) -> io::Result<()> {
     println!(rt; "teaching book")?;
-    let needed = queries::needs(k, TANK, 3);
-    show_set(rt, "K1, needs of tank.a", needed.answer, needed.set)?;
-    let undefined = queries::undefined(k);
-    show_set(rt, "K2, undefined", undefined.answer, undefined.set)?;
-    let users = queries::whereused(k, PROBE);
-    show_set(rt, "K3, whereused of probe", users.answer, users.set)?;
+    show_set(rt, "K1, needs of tank.a", queries::needs(&k, TANK, 3))?;
+    show_set(rt, "K2, undefined", queries::undefined(&k))?;
+    show_set(rt, "K3, whereused of probe", queries::whereused(&k, PROBE))?;
     show_depth(rt, parts_of(rt, "parts of tank.a", k, TANK, 3)?)?;
     parts_of(rt, "parts of loop.p, with no member", k, LOOP, 2)?;
     Ok(())
 }
 
 fn shell(rt: &HostRuntime, k: Book) -> io::Result<()> {
-    let b = told(rt, "K7, spec shell", spec(k, SHELL, HOLD, 5, 0))?;
-    let b = told(rt, "K7, sys shell", system_of(b, SHELL, 5, &[LOOP]))?;
-    let needed = queries::needs(b, SHELL, 5);
-    show_set(rt, "K7, needs of shell.s", needed.answer, needed.set)?;
+    let mut b = k;
+    told(rt, "K7, spec shell", spec(&mut b, SHELL, HOLD, 5, 0))?;
+    told(rt, "K7, sys shell", system_of(&mut b, SHELL, 5, &[LOOP]))?;
+    show_set(rt, "K7, needs of shell.s", queries::needs(&b, SHELL, 5))?;
     parts_of(rt, "K7, parts of shell.s", b, SHELL, 5)?;
     Ok(())
 }
 
 // probe is a part of tank and of room, and listed once.
 fn room(rt: &HostRuntime, k: Book) -> io::Result<()> {
-    let b = told(rt, "K10, spec room", spec(k, ROOM, HOLD, 6, 0))?;
-    let b = told(rt, "K10, sys room", system_of(b, ROOM, 6, &[TANK, PROBE]))?;
+    let mut b = k;
+    told(rt, "K10, spec room", spec(&mut b, ROOM, HOLD, 6, 0))?;
+    told(
+        rt,
+        "K10, sys room",
+        system_of(&mut b, ROOM, 6, &[TANK, PROBE]),
+    )?;
     show_depth(rt, parts_of(rt, "K10, parts of room.q", b, ROOM, 6)?)?;
     show_parts(rt, "K10, slice of five", b, ROOM, 6, &mut [BEFORE; 5])?;
     show_parts(rt, "K10, slice of four", b, ROOM, 6, &mut [BEFORE; 4])?;
@@ -236,8 +254,7 @@ fn order(rt: &HostRuntime) -> io::Result<()> {
 
 fn last_system(rt: &HostRuntime, b: Book) -> io::Result<()> {
     println!(rt; "deep book")?;
-    let needed = queries::needs(b, 31, 0);
-    show_set(rt, "needs of the last system", needed.answer, needed.set)?;
+    show_set(rt, "needs of the last system", queries::needs(&b, 31, 0))?;
     let mut out = [BEFORE; 32];
     let depth = show_parts(rt, "parts of the last system", b, 31, 0, &mut out)?;
     show_depth(rt, depth)?;

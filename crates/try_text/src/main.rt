@@ -2,36 +2,41 @@
 // written from document 01.
 #![tactic(auto)]
 
-ghost use Rattle.std.specs.Prelude.{◌≡◌, true, ◌*◌, ◌≤◌, length};
-ghost use Rattle.model.specs.Lists.{every, non_empty};
-ghost use Rattle.names.specs.Stored.{table_of};
+ghost use Rattle.std.specs.Prelude.{◌≡◌, ◌+◌, ◌*◌, ◌<◌, length};
 
 use book::Book;
 use command_lists::LEFT_OUT;
-use commands::Outcome;
 use names::Names;
+use refusal::Refusal;
 use std::io;
 use std::io::Write;
 
 // What stands in a slice before the call.
-const BEFORE: u8 = 46;
+const BEFORE: u8 = b'.';
 
 // ---- lines
 
 // What stands at the start of the slice, and how many of the bytes behind it are as they were.
 fn show_slice(rt: &HostRuntime, out: &[u8], len: usize) -> io::Result<()> {
-    if out.len() < len {
+    let (Some(text), Some(behind)) = (out.get(..len), out.get(len..)) else {
         return println!(rt; "longer than the slice");
-    }
-    rt.stdout().write_all(&out[..len])?;
-    let untouched = out[len..].iter().filter(|&&byte| byte == BEFORE).count();
+    };
+    rt.stdout().write_all(text)?;
+    let untouched = behind.iter().filter(|&&byte| byte == BEFORE).count();
     println!(rt; "untouched behind it: {untouched}")
 }
 
 fn show_in(rt: &HostRuntime, label: &str, b: Book, t: Names, out: &mut [u8]) -> io::Result<()> {
-    let r = book_text::text_of(b, t, out);
-    println!(rt; "{label}: {}, bytes {}", r.answer, r.len)?;
-    show_slice(rt, out, r.len)
+    match book_text::text_of(&b, &t, out) {
+        Ok(len) => {
+            println!(rt; "{label}: 0, bytes {len}")?;
+            show_slice(rt, out, len)
+        }
+        Err(refusal) => {
+            println!(rt; "{label}: {}, bytes 0", refusal.number())?;
+            show_slice(rt, out, 0)
+        }
+    }
 }
 
 // In a slice of 1000 bytes.
@@ -41,120 +46,103 @@ fn show(rt: &HostRuntime, label: &str, b: Book, t: Names) -> io::Result<()> {
 
 // ---- tables, by names
 
-// The word put into the table.
-fn enter(rt: &HostRuntime, names: &mut [u8], places: usize, word: &[u8]) -> io::Result<()>
-    requires names_len { length names.old ≡ places * 33 }
-    requires names_value { every non_empty (table_of places names.old) ≡ true }
-    ensures { every non_empty (table_of places names.new) ≡ true }
+// A table of that many places with these words, which spaces part.
+fn table<const LEN: usize>(rt: &HostRuntime, places: usize, words: &str) -> io::Result<[u8; LEN]>
+    requires { LEN ≡ places * 33 }
 {
-    if !words::is_valid_implementation(word) {
-        return println!(rt; "no word");
-    }
-    names::enter(names, places, word);
-    Ok(())
-}
-
-// The end of the word that starts there.
-fn word_end(words: &[u8], start: usize) -> usize
-    requires { start ≤ length words.now }
-    ensures { (start ≤ result) × (result ≤ length words.now) }
-{
-    for i in start..words.len() {
-        if words[i] == b' ' {
-            return i;
+    let mut names = [0; LEN];
+    for word in words.split_whitespace() {
+        let word = word.as_bytes();
+        if words::is_valid_implementation(word) {
+            names::enter(&mut names, places, word);
+        } else {
+            println!(rt; "no word")?;
         }
     }
-    words.len()
-}
-
-// The words, which a space parts, put into the table one after the other.
-fn enter_each(rt: &HostRuntime, names: &mut [u8], places: usize, words: &[u8]) -> io::Result<()>
-    requires names_len { length names.old ≡ places * 33 }
-    requires names_value { every non_empty (table_of places names.old) ≡ true }
-{
-    let mut at = 0;
-    while at < words.len() {
-        let end = word_end(words, at);
-        enter(rt, names, places, words::part(words, at, end))?;
-        at = end + 1;
-    }
-    Ok(())
+    Ok(names)
 }
 
 fn tables(
     rt: &HostRuntime,
-    comp_words: &[u8],
-    ver_words: &[u8],
-    fac_words: &[u8],
-    impl_words: &[u8],
+    comp_words: &str,
+    ver_words: &str,
+    fac_words: &str,
+    impl_words: &str,
 ) -> io::Result<Names> {
-    let mut comps = [0u8; 1056];
-    let mut vers = [0u8; 2112];
-    let mut facs = [0u8; 2112];
-    let mut impls = [0u8; 8448];
-    enter_each(rt, &mut comps, 32, comp_words)?;
-    enter_each(rt, &mut vers, 64, ver_words)?;
-    enter_each(rt, &mut facs, 64, fac_words)?;
-    enter_each(rt, &mut impls, 256, impl_words)?;
     Ok(Names {
-        comps,
-        vers,
-        facs,
-        impls,
+        comps: table(rt, 32, comp_words)?,
+        vers: table(rt, 64, ver_words)?,
+        facs: table(rt, 64, fac_words)?,
+        impls: table(rt, 256, impl_words)?,
     })
+}
+
+// A length and bytes written over those of a place, valid or not.
+fn overwrite(names: &mut [u8], place: usize, len: u8, bytes: &[u8])
+    requires { place * 33 + length bytes.now < length names.old }
+{
+    let start = place * 33;
+    names[start] = len;
+    names[start + 1..][..bytes.len()].copy_from_slice(bytes);
 }
 
 // ---- books, by calls
 
-// The Book that a call leaves, with a line where it refuses.
-fn taken(rt: &HostRuntime, o: Outcome) -> io::Result<Book> {
-    if o.answer != 0 {
-        println!(rt; "refused: {}", o.answer)?;
+// A line where a call refuses.
+fn taken(rt: &HostRuntime, answer: Result<(), Refusal>) -> io::Result<()> {
+    if let Err(refusal) = answer {
+        println!(rt; "refused: {}", refusal.number())?;
     }
-    Ok(o.book)
+    Ok(())
 }
 
 // Component c specified with the one version v.
 fn spec(
     rt: &HostRuntime,
-    b: Book,
+    book: &mut Book,
     c: usize,
     provided: u64,
     v: usize,
     required: u64,
-) -> io::Result<Book> {
-    taken(rt, commands::add_spec(b, c, provided, &[v], &[required], v))
-}
-
-// Component c defined as a system of the one version 0, with the one member m, which alone is usable.
-fn system(rt: &HostRuntime, b: Book, c: usize, m: usize) -> io::Result<Book> {
+) -> io::Result<()> {
     taken(
         rt,
-        commands::add_sys(b, c, &[m], &[0], &[1], &[m], &[LEFT_OUT]),
+        commands::add_spec(book, c, provided, &[v], &[required], v),
+    )
+}
+
+// Component c defined as a system of the one version 0, with the one member m, which alone is usable. The interface to C lends versions as
+// numbers, so that LEFT_OUT is a number too.
+fn system(rt: &HostRuntime, book: &mut Book, c: usize, m: usize) -> io::Result<()> {
+    taken(
+        rt,
+        commands::add_sys(book, c, &[m], &[0], &[1], &[m], &[LEFT_OUT]),
     )
 }
 
 // ---- the teaching book
 
 fn teaching(rt: &HostRuntime) -> io::Result<Book> {
-    let b = spec(rt, Book::fresh(), 0, 1, 0, 0)?;
-    let b = spec(rt, b, 1, 2, 1, 1)?;
-    let b = spec(rt, b, 2, 4, 2, 3)?;
-    let b = spec(rt, b, 3, 4, 3, 0)?;
+    let mut b = Book::fresh();
+    spec(rt, &mut b, 0, 1, 0, 0)?;
+    spec(rt, &mut b, 1, 2, 1, 1)?;
+    spec(rt, &mut b, 2, 4, 2, 3)?;
+    spec(rt, &mut b, 3, 4, 3, 0)?;
     let used = [2, 0, 1];
     taken(
         rt,
-        commands::add_sys(b, 3, &used, &[3], &[3], &used, &[LEFT_OUT; 3]),
-    )
+        commands::add_sys(&mut b, 3, &used, &[3], &[3], &used, &[LEFT_OUT; 3]),
+    )?;
+    Ok(b)
 }
 
 // The names of the teaching book, with these for its components.
-fn teaching_names_with(rt: &HostRuntime, comp_words: &[u8]) -> io::Result<Names> {
-    tables(rt, comp_words, b"one v2 p a", b"temp cool hold", b"")
+fn teaching_names_with(rt: &HostRuntime, comp_words: &str) -> io::Result<Names> {
+    tables(rt, comp_words, "one v2 p a", "temp cool hold", "")
 }
 
 fn teaching_names(rt: &HostRuntime) -> io::Result<Names> {
-    teaching_names_with(rt, b"probe valve loop tank")
+    teaching_names_with(rt, "probe valve loop tank")
 }
 
 // The text of the teaching book has 248 bytes.
@@ -171,29 +159,28 @@ fn show_teaching(rt: &HostRuntime, k: Book, t: Names) -> io::Result<()> {
 
 // The specifications; facilities are numbered in order of mention.
 fn figure_specs(rt: &HostRuntime) -> io::Result<Book> {
-    let b = taken(
-        rt,
-        commands::add_spec(Book::fresh(), 0, 3, &[0, 1], &[0, 0], 1),
-    )?;
-    let b = taken(rt, commands::add_spec(b, 1, 3, &[0, 1], &[60, 964], 1))?;
-    let b = taken(rt, commands::add_spec(b, 2, 56, &[2, 3], &[4, 4], 2))?;
-    spec(rt, b, 3, 1984, 4, 4)
+    let mut b = Book::fresh();
+    taken(rt, commands::add_spec(&mut b, 0, 3, &[0, 1], &[0, 0], 1))?;
+    taken(rt, commands::add_spec(&mut b, 1, 3, &[0, 1], &[60, 964], 1))?;
+    taken(rt, commands::add_spec(&mut b, 2, 56, &[2, 3], &[4, 4], 2))?;
+    spec(rt, &mut b, 3, 1984, 4, 4)?;
+    Ok(b)
 }
 
 fn figure_modules(rt: &HostRuntime) -> io::Result<Book> {
-    let b = taken(
-        rt,
-        commands::add_mod(figure_specs(rt)?, 1, &[0, 1], &[0, 1]),
-    )?;
-    let b = taken(rt, commands::add_mod(b, 2, &[2, 3], &[2, 3]))?;
-    taken(rt, commands::add_mod(b, 3, &[4], &[4]))
+    let mut b = figure_specs(rt)?;
+    taken(rt, commands::add_mod(&mut b, 1, &[0, 1], &[0, 1]))?;
+    taken(rt, commands::add_mod(&mut b, 2, &[2, 3], &[2, 3]))?;
+    taken(rt, commands::add_mod(&mut b, 3, &[4], &[4]))?;
+    Ok(b)
 }
 
 fn figure(rt: &HostRuntime) -> io::Result<Book> {
+    let mut b = figure_modules(rt)?;
     taken(
         rt,
         commands::add_sys(
-            figure_modules(rt)?,
+            &mut b,
             0,
             &[1, 2, 3],
             &[0, 1],
@@ -201,16 +188,17 @@ fn figure(rt: &HostRuntime) -> io::Result<Book> {
             &[1, 2, 1, 3],
             &[0, LEFT_OUT, LEFT_OUT, LEFT_OUT],
         ),
-    )
+    )?;
+    Ok(b)
 }
 
 fn figure_names(rt: &HostRuntime) -> io::Result<Names> {
     tables(
         rt,
-        b"DiscScheduler ds rcbqueue rcblist",
-        b"FCFS SSTF staticq dynamicq slist",
-        b"schedule service rcb dequeue queue enqueue list remove inspect insert position",
-        b"/usr/ian/svcd/fcfs.ada.make /usr/ian/svcd/sstf.ada.make /usr/ian/svcd/sq.ada.make /usr/ian/svcd/dq.ada.make /usr/ian/svcd/sl.ada.make",
+        "DiscScheduler ds rcbqueue rcblist",
+        "FCFS SSTF staticq dynamicq slist",
+        "schedule service rcb dequeue queue enqueue list remove inspect insert position",
+        "/usr/ian/svcd/fcfs.ada.make /usr/ian/svcd/sstf.ada.make /usr/ian/svcd/sq.ada.make /usr/ian/svcd/dq.ada.make /usr/ian/svcd/sl.ada.make",
     )
 }
 
@@ -220,25 +208,27 @@ fn figure_names(rt: &HostRuntime) -> io::Result<Names> {
 fn six_specs(rt: &HostRuntime) -> io::Result<Book> {
     let mut b = Book::fresh();
     for c in 0..6 {
-        b = spec(rt, b, c, 1, 0, 0)?;
+        spec(rt, &mut b, c, 1, 0, 0)?;
     }
     Ok(b)
 }
 
 // a uses z, m uses a, b and z use base; c may use z too, but its composition does not hold it.
 fn held_back(rt: &HostRuntime) -> io::Result<Book> {
-    let b = system(rt, six_specs(rt)?, 0, 1)?;
-    let b = system(rt, b, 1, 3)?;
-    let b = system(rt, b, 2, 0)?;
-    let b = system(rt, b, 4, 3)?;
+    let mut b = six_specs(rt)?;
+    system(rt, &mut b, 0, 1)?;
+    system(rt, &mut b, 1, 3)?;
+    system(rt, &mut b, 2, 0)?;
+    system(rt, &mut b, 4, 3)?;
     taken(
         rt,
-        commands::add_sys(b, 5, &[3, 1], &[0], &[1], &[3], &[LEFT_OUT]),
-    )
+        commands::add_sys(&mut b, 5, &[3, 1], &[0], &[1], &[3], &[LEFT_OUT]),
+    )?;
+    Ok(b)
 }
 
 fn held_back_names(rt: &HostRuntime) -> io::Result<Names> {
-    tables(rt, b"a z m base b c", b"v", b"f", b"")
+    tables(rt, "a z m base b c", "v", "f", "")
 }
 
 // ---- the order of bytes
@@ -248,7 +238,7 @@ fn six_ordered(rt: &HostRuntime) -> io::Result<Book> {
     let mut b = Book::fresh();
     for c in 0..7 {
         if c != 2 {
-            b = spec(rt, b, c, sets::with(0, c), 1, 0)?;
+            spec(rt, &mut b, c, sets::with(0, c), 1, 0)?;
         }
     }
     Ok(b)
@@ -257,37 +247,37 @@ fn six_ordered(rt: &HostRuntime) -> io::Result<Book> {
 // Component 2 has all seven versions, and 7 is a system of the others.
 fn ordered(rt: &HostRuntime) -> io::Result<Book> {
     let versions = [0, 1, 2, 3, 4, 5, 6];
-    let b = six_ordered(rt)?;
-    let b = taken(
+    let mut b = six_ordered(rt)?;
+    taken(
         rt,
-        commands::add_spec(b, 2, 4, &versions, &[123, 0, 0, 0, 0, 0, 0], 1),
+        commands::add_spec(&mut b, 2, 4, &versions, &[123, 0, 0, 0, 0, 0, 0], 1),
     )?;
-    let b = spec(rt, b, 7, 127, 1, 0)?;
+    spec(rt, &mut b, 7, 127, 1, 0)?;
     let chosen = [1, 1, 0, 1, 1, 1, 1];
     taken(
         rt,
-        commands::add_sys(b, 7, &versions, &[1], &[7], &versions, &chosen),
-    )
+        commands::add_sys(&mut b, 7, &versions, &[1], &[7], &versions, &chosen),
+    )?;
+    Ok(b)
 }
 
 fn ordered_names(rt: &HostRuntime) -> io::Result<Names> {
     tables(
         rt,
-        b"ab a_ a A aB a0 a- 0a",
-        b"v_ v v- V v1 1 vV",
-        b"f_ f f- F f1 fF ff",
-        b"",
+        "ab a_ a A aB a0 a- 0a",
+        "v_ v v- V v1 1 vV",
+        "f_ f f- F f1 fF ff",
+        "",
     )
 }
 
 // ---- a module that provides nothing
 
 fn module(rt: &HostRuntime) -> io::Result<Book> {
-    let b = taken(
-        rt,
-        commands::add_spec(Book::fresh(), 0, 0, &[0, 1], &[0, 0], 1),
-    )?;
-    taken(rt, commands::add_mod(b, 0, &[0, 1], &[0, 1]))
+    let mut b = Book::fresh();
+    taken(rt, commands::add_spec(&mut b, 0, 0, &[0, 1], &[0, 0], 1))?;
+    taken(rt, commands::add_mod(&mut b, 0, &[0, 1], &[0, 1]))?;
+    Ok(b)
 }
 
 // ---- the question for 25
@@ -295,32 +285,30 @@ fn module(rt: &HostRuntime) -> io::Result<Book> {
 // The name of version 3 is made that of version 2.
 fn show_twice(rt: &HostRuntime, k: Book, t: Names) -> io::Result<()> {
     let mut twice = t;
-    twice.vers[100] = 112;
+    overwrite(&mut twice.vers, 3, 1, b"p");
     show(rt, "a version's name twice", k, twice)?;
     let mut spare = t;
-    spare.impls[0] = 1;
-    spare.impls[1] = 120;
-    spare.impls[66] = 1;
-    spare.impls[67] = 120;
+    overwrite(&mut spare.impls, 0, 1, b"x");
+    overwrite(&mut spare.impls, 2, 1, b"x");
     show(rt, "a name twice that the book has not", k, spare)?;
-    spare.impls[0] = 33;
-    spare.impls[66] = 33;
+    overwrite(&mut spare.impls, 0, 33, b"x");
+    overwrite(&mut spare.impls, 2, 33, b"x");
     show(rt, "two free places with one byte", k, spare)
 }
 
 fn show_missing(rt: &HostRuntime, k: Book, t: Names) -> io::Result<()> {
     let mut free = t;
-    free.facs[0] = 0;
+    overwrite(&mut free.facs, 0, 0, b"");
     show(rt, "no name for a facility", k, free)?;
     let mut long = t;
-    long.comps[0] = 33;
+    overwrite(&mut long.comps, 0, 33, b"");
     show(rt, "a length above 32", k, long)
 }
 
 // The facility rcb of Fig. 1.
 fn show_missing_required(rt: &HostRuntime) -> io::Result<()> {
     let mut t = figure_names(rt)?;
-    t.facs[66] = 0;
+    overwrite(&mut t.facs, 2, 0, b"");
     show(
         rt,
         "no name for a facility that is only required",
@@ -330,24 +318,23 @@ fn show_missing_required(rt: &HostRuntime) -> io::Result<()> {
 }
 
 fn show_missing_implementation(rt: &HostRuntime) -> io::Result<()> {
-    let one = tables(rt, b"loop", b"p q", b"", b"end")?;
+    let one = tables(rt, "loop", "p q", "", "end")?;
     show(rt, "no name for an implementation", module(rt)?, one)
 }
 
 fn show_no_word(rt: &HostRuntime, k: Book) -> io::Result<()> {
-    let keyword = teaching_names_with(rt, b"probe valve end tank")?;
+    let keyword = teaching_names_with(rt, "probe valve end tank")?;
     show(rt, "a keyword as a name", k, keyword)?;
-    let hyphen = teaching_names_with(rt, b"probe valve -loop tank")?;
+    let hyphen = teaching_names_with(rt, "probe valve -loop tank")?;
     show(rt, "a name that begins with a hyphen", k, hyphen)
 }
 
 fn show_invalid(rt: &HostRuntime, k: Book, t: Names) -> io::Result<()> {
     let mut blank = t;
-    blank.comps[2] = 32;
+    overwrite(&mut blank.comps, 0, 5, b"p obe");
     show(rt, "a name with a space", k, blank)?;
     let mut unused = t;
-    unused.comps[132] = 1;
-    unused.comps[133] = 45;
+    overwrite(&mut unused.comps, 4, 1, b"-");
     show(
         rt,
         "no valid name for a number that the book has not",
@@ -357,6 +344,7 @@ fn show_invalid(rt: &HostRuntime, k: Book, t: Names) -> io::Result<()> {
 }
 
 fn show_no_book(rt: &HostRuntime, k: Book, t: Names) -> io::Result<()> {
+    // In the layout that callers from C share, a component's kind stands at its number, and 0 says that it is not specified.
     let mut robbed = k;
     robbed.numbers[0] = 0;
     show(rt, "no book", robbed, t)?;
@@ -371,7 +359,7 @@ fn show_empty(rt: &HostRuntime, t: Names) -> io::Result<()> {
 }
 
 fn show_module(rt: &HostRuntime) -> io::Result<()> {
-    let t = tables(rt, b"loop", b"p q", b"", b"end a/b.c-d_e")?;
+    let t = tables(rt, "loop", "p q", "", "end a/b.c-d_e")?;
     show(rt, "module", module(rt)?, t)
 }
 

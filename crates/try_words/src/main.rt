@@ -16,25 +16,25 @@ fn print_token(rt: &HostRuntime, kind: &str, part: &[u8]) -> io::Result<()> {
 }
 
 fn print_tokens(rt: &HostRuntime, text: &[u8]) -> io::Result<()> {
-    let mut at = 0;
-    loop {
-        match words::next_token(text, at) {
+    let mut rest = text;
+    while let Some(token) = words::next_token(rest, 0) {
+        match token {
             Token::Word(start, end) => {
-                print_token(rt, "word", words::word(text, start))?;
-                at = end;
+                print_token(rt, "word", &rest[start..end])?;
+                rest = &rest[end..];
             }
             Token::Quoted(start, end) => {
-                print_token(rt, "implementation", &text[start..end])?;
-                at = end + 1;
+                print_token(rt, "implementation", &rest[start..end])?;
+                rest = &rest[end + 1..];
             }
-            Token::Mark(_, end) => {
-                print_token(rt, "mark", &text[end - 1..end])?;
-                at = end;
+            Token::Mark(mark, end) => {
+                print_token(rt, "mark", &[mark])?;
+                rest = &rest[end..];
             }
             Token::End => return println!(rt; "end"),
-            Token::Bad => return println!(rt; "no token"),
         }
     }
+    println!(rt; "no token")
 }
 
 // ---- what a word is
@@ -80,6 +80,7 @@ fn print_all(rt: &HostRuntime, input: &[u8]) -> io::Result<()> {
 }
 
 fn main(rt: HostRuntime) -> io::Result<()> {
+    // An array and no `Vec`, as the program needs no heap. What stands behind its 4096 bytes is not read.
     let mut input = [0u8; 4096];
     let n = input::fill(&mut rt.stdin(), &mut input)?;
     print_all(&rt, &input[..n])

@@ -1,14 +1,12 @@
 -- What the answers of the code mean: tokens of document 01, read from a position of a text.
-use Rattle.std.specs.Prelude.{Bool, false, true, [], ◌≡◌, ◌%◌, ◌*◌, ◌+◌, ◌-◌, ◌<◌, ◌≤◌, ℕ, drop, get_or, length, take}
+use Rattle.std.specs.Prelude.{Bool, None, Option as Found, Some, false, true, [], ◌≡◌, ◌%◌, ◌*◌, ◌+◌, ◌-◌, ◌<◌, ◌≤◌, ℕ, drop, get_or, length, take}
 use Rattle.std.proofs.Math.Option.{Option, none, some}
 use Rattle.model.specs.Maps.{or_else}
 use Rattle.sets.specs.Tests.{◌=?◌, ◌or◌, ~◌}
 use Rattle.text.specs.Bytes.{Text, impl_byte, name_byte, white}
 use Rattle.text.specs.Tokens.{Next, bad, closing, end, mark, past, quoted, run, skip, token, token_at, word}
-use Rattle.words.specs.declared.Skipped.{Skipped}
-use Rattle.words.specs.declared.Skipped.TheVariants.{To, Open}
 use Rattle.words.specs.declared.Token.{Token}
-use Rattle.words.specs.declared.Token.TheVariants.{Word, Quoted, Mark, End, Bad}
+use Rattle.words.specs.declared.Token.TheVariants.{Word, Quoted, Mark, End}
 
 -- the part of the text from position a up to position e
 abbrev pub part : Text → ℕ → ℕ → Text
@@ -25,17 +23,17 @@ unfoldable pub stays_open : Bool → ℕ → Bool
 stays_open true c = ~ (c =? 125)
 stays_open false c = c =? 123
 
-unfoldable pub rest_from : Text → Skipped → Option Text
-rest_from t (To i) = some (drop i t)
-rest_from t Open = none
+unfoldable pub rest_from : Text → Found ℕ → Option Text
+rest_from t (Some i) = some (drop i t)
+rest_from t None = none
 
 -- positions between `at` and the end of the text
-abbrev pub SkipsWithin : Text → ℕ → Skipped → Type 0
-SkipsWithin t at (To i) = (at ≤ i) × (i ≤ length t)
-SkipsWithin t at Open = Unit {0}
+abbrev pub SkipsWithin : Text → ℕ → Found ℕ → Type 0
+SkipsWithin t at (Some i) = (at ≤ i) × (i ≤ length t)
+SkipsWithin t at None = Unit {0}
 
 -- the answer r from position `at` on
-pub record Skips (t : Text) (at : ℕ) (r : Skipped) : Type 0 where
+pub record Skips (t : Text) (at : ℕ) (r : Found ℕ) : Type 0 where
   pub is : rest_from t r ≡ skip false (drop at t)
   pub within : SkipsWithin t at r
 
@@ -58,22 +56,22 @@ pub record RunsTo (f : ℕ → Bool) (t : Text) (at r : ℕ) : Type 0 where
 unfoldable pub quoted_from : Text → Next
 quoted_from t = closing (run impl_byte t) (past impl_byte t)
 
-unfoldable pub next_of : Text → Token → Next
-next_of t (Word a e) = token (word (part t a e)) (drop e t)
-next_of t (Quoted a e) = token (quoted (part t a e)) (drop (e + 1) t)
-next_of t (Mark c e) = token (mark c) (drop e t)
-next_of t End = end
-next_of t Bad = bad
+unfoldable pub next_of : Text → Found Token → Next
+next_of t (Some (Word a e)) = token (word (part t a e)) (drop e t)
+next_of t (Some (Quoted a e)) = token (quoted (part t a e)) (drop (e + 1) t)
+next_of t (Some (Mark c e)) = token (mark c) (drop e t)
+next_of t (Some End) = end
+next_of t None = bad
 
-abbrev pub ReadsWithin : Text → ℕ → Token → Type 0
-ReadsWithin t at (Word a e) = (at ≤ a) × (a < e) × (e ≤ length t)
-ReadsWithin t at (Quoted a e) = (at ≤ a) × (a < e) × (e < length t)
-ReadsWithin t at (Mark c e) = (at < e) × (e ≤ length t)
-ReadsWithin t at End = Unit {0}
-ReadsWithin t at Bad = Unit {0}
+abbrev pub ReadsWithin : Text → ℕ → Found Token → Type 0
+ReadsWithin t at (Some (Word a e)) = (at ≤ a) × (a < e) × (e ≤ length t)
+ReadsWithin t at (Some (Quoted a e)) = (at ≤ a) × (a < e) × (e < length t)
+ReadsWithin t at (Some (Mark c e)) = (at < e) × (e ≤ length t)
+ReadsWithin t at (Some End) = Unit {0}
+ReadsWithin t at None = Unit {0}
 
 -- the answer r, read from position `at` on, is n
-pub record Reads (t : Text) (at : ℕ) (n : Next) (r : Token) : Type 0 where
+pub record Reads (t : Text) (at : ℕ) (n : Next) (r : Found Token) : Type 0 where
   pub is : next_of t r ≡ n
   pub within : ReadsWithin t at r
 

@@ -1,5 +1,5 @@
 -- White space and comments, passed a byte at a time.
-use Rattle.std.specs.Prelude.{Bool, false, true, ◌≡◌, refl, ◌+◌, ◌<◌, ◌≤◌, ℕ, drop, get_or, length}
+use Rattle.std.specs.Prelude.{Bool, None, Some, false, true, ◌≡◌, refl, ◌+◌, ◌<◌, ◌≤◌, ℕ, drop, get_or, length}
 use Rattle.std.proofs.Common.{◌∙◌, ap, le_refl, add-one, arith, drop-cons}
 use Rattle.std.proofs.Math.Path.{sym}
 use Rattle.std.proofs.Math.ListN.{drop_of_length-le}
@@ -7,7 +7,6 @@ use Rattle.sets.specs.TestLaws.{clash, if-false, if-true}
 use Rattle.sets.specs.Tests.{◌or◌}
 use Rattle.text.specs.Bytes.{Text}
 use Rattle.text.specs.Tokens.{skip}
-use Rattle.words.specs.declared.Skipped.TheVariants.{To, Open}
 use Rattle.words.specs.Reading.{Skips, passes, rest_from, stays_open}
 
 -- from `at` on all was passed up to position i, which lies in a comment or not
@@ -25,7 +24,7 @@ unfolding skip passes stays_open ◌or◌
 on t i true h e = rw (drop-cons t i 0 h, add-one i)
 on t i false h e = rw (drop-cons t i 0 h, add-one i) (if-true _ _ _ e)
 
-stop : (t : Text) (i : ℕ) (b : Bool) → i < length t → passes b (get_or t i 0) ≡ false → skip b (drop i t) ≡ rest_from t (To i)
+stop : (t : Text) (i : ℕ) (b : Bool) → i < length t → passes b (get_or t i 0) ≡ false → skip b (drop i t) ≡ rest_from t (Some i)
 unfolding skip passes rest_from ◌or◌
 stop t i true h e = clash refl e
 stop t i false h e = rw (drop-cons t i 0 h) (if-false _ _ _ e)
@@ -39,16 +38,16 @@ module _ (t : Text) (at i : ℕ) (b : Bool) (s : Skipping t at i b) where
     below = omega arith;
   }
 
-  pub skip_stop : (p : Bool) → i < length t → p ≡ passes b (get_or t i 0) → p ≡ false → Skips t at (To i)
+  pub skip_stop : (p : Bool) → i < length t → p ≡ passes b (get_or t i 0) → p ≡ false → Skips t at (Some i)
   skip_stop p h q e = record { is = sym (s.is ∙ stop t i b h (sym q ∙ e)); within = (s.from, s.below) }
 
-  pub skip_end : length t ≤ i → b ≡ false → Skips t at (To (length t))
+  pub skip_end : length t ≤ i → b ≡ false → Skips t at (Some (length t))
   unfolding skip rest_from
   skip_end h e = record {
     is = sym (s.is ∙ rw (e, drop_of_length-le t h, drop_of_length-le t (le_refl (length t))));
     within = (let f = s.from in let l = s.below in omega arith, le_refl (length t));
   }
 
-  pub skip_open : length t ≤ i → b ≡ true → Skips t at Open
+  pub skip_open : length t ≤ i → b ≡ true → Skips t at None
   unfolding skip rest_from
   skip_open h e = record { is = sym (s.is ∙ rw (e, drop_of_length-le t h)); within = tt }

@@ -1,5 +1,5 @@
 -- The token at a position: a law for each way out of the code.
-use Rattle.std.specs.Prelude.{Bool, false, true, [], ◌∷◌, ◌≢◌, ◌≡◌, refl, ◌+◌, ◌-◌, ◌<◌, ◌≤◌, suc, ℕ, drop, length, take}
+use Rattle.std.specs.Prelude.{Bool, None, Option as Found, Some, false, true, [], ◌∷◌, ◌≢◌, ◌≡◌, refl, ◌+◌, ◌-◌, ◌<◌, ◌≤◌, suc, ℕ, drop, length, take}
 use Rattle.std.proofs.Math.Option.{none}
 use Rattle.std.proofs.Common.{◌∙◌, subst, drop_of_length-le, length-drop, drop-cons, length-take-le}
 use Rattle.std.proofs.Math.Path.{ap, ap₂, sym}
@@ -11,10 +11,8 @@ use Rattle.sets.specs.TestLaws.{=?-in, =?-not, and-false, and_in, and_l, and_r, 
 use Rattle.sets.specs.Tests.{◌&◌, ◌=?◌, if?◌then◌else◌}
 use Rattle.text.specs.Bytes.{Text, alnum, impl_byte, is_mark, name_byte, short}
 use Rattle.text.specs.Tokens.{Next, bad, closing, next_token, quoted, skip, skipped, token, token_at, word}
-use Rattle.words.specs.declared.Skipped.{Skipped}
-use Rattle.words.specs.declared.Skipped.TheVariants.{To, Open}
 use Rattle.words.specs.declared.Token.{Token}
-use Rattle.words.specs.declared.Token.TheVariants.{Word, Quoted, Mark, End, Bad}
+use Rattle.words.specs.declared.Token.TheVariants.{Word, Quoted, Mark, End}
 use Rattle.words.specs.Reading.{Reads, ReadsWithin, RunsTo, Skips, SkipsWithin, in_run, next_of, part, quoted_from, rest_from}
 use Rattle.words.specs.RunLaws.{run_part}
 
@@ -38,7 +36,7 @@ module _ (t : Text) (at e : ℕ) (w : RunsTo (in_run true) t at e) where
   unfolding quoted_from in_run
   from-run = ap₂ closing (run_part impl_byte t at e w) (sym w.is)
 
-  pub quoted_cut : length t ≤ e → Reads t at (quoted_from (drop at t)) Bad
+  pub quoted_cut : length t ≤ e → Reads t at (quoted_from (drop at t)) None
   unfolding next_of closing
   quoted_cut h = record { is = sym (from-run ∙ rw (drop_of_length-le t h)); within = tt }
 
@@ -51,20 +49,20 @@ module _ (t : Text) (at e : ℕ) (w : RunsTo (in_run true) t at e) where
     long : length (part t at e) ≡ e - at
     long = part_length t at e w.inside
 
-    no : (get_or t e 0 =? 34 & short (part t at e)) ≡ false → Reads t at (quoted_from (drop at t)) Bad
+    no : (get_or t e 0 =? 34 & short (part t at e)) ≡ false → Reads t at (quoted_from (drop at t)) None
     unfolding next_of
     no b = record { is = sym (from_byte ∙ if-false _ _ _ b); within = tt }
 
-    pub quoted_open : get_or t e 0 ≢ 34 → Reads t at (quoted_from (drop at t)) Bad
+    pub quoted_open : get_or t e 0 ≢ 34 → Reads t at (quoted_from (drop at t)) None
     quoted_open n = no (and-false _ _ (=?-not _ _ n))
 
-    pub quoted_none : e ≤ at → Reads t at (quoted_from (drop at t)) Bad
+    pub quoted_none : e ≤ at → Reads t at (quoted_from (drop at t)) None
     quoted_none l = no (fails _ (λ b. let q = short_out _ (and_r _ _ b) in absurd (omega (arith, long))))
 
-    pub quoted_long : 32 < e - at → Reads t at (quoted_from (drop at t)) Bad
+    pub quoted_long : 32 < e - at → Reads t at (quoted_from (drop at t)) None
     quoted_long l = no (fails _ (λ b. let q = short_out _ (and_r _ _ b) in absurd (omega (arith, long))))
 
-    pub quoted_yes : get_or t e 0 ≡ 34 → at < e → e - at ≤ 32 → Reads t at (quoted_from (drop at t)) (Quoted at e)
+    pub quoted_yes : get_or t e 0 ≡ 34 → at < e → e - at ≤ 32 → Reads t at (quoted_from (drop at t)) (Some (Quoted at e))
     unfolding next_of
     quoted_yes q l m = record {
       is = sym (from_byte ∙ if-true _ _ _ (and_in _ _ (=?-in _ _ q) (short_in _ (omega (arith, long)) (omega (arith, long)))));
@@ -73,15 +71,15 @@ module _ (t : Text) (at e : ℕ) (w : RunsTo (in_run true) t at e) where
 
 -- ---- a token
 
-reads_from : (t : Text) (at i : ℕ) (n : Next) (r : Token) → at ≤ i → Reads t i n r → Reads t at n r
+reads_from : (t : Text) (at i : ℕ) (n : Next) (r : Found Token) → at ≤ i → Reads t i n r → Reads t at n r
 reads_from t at i n r l s = record { is = s.is; within = from r s.within }
   where
-    from : (r : Token) → ReadsWithin t i r → ReadsWithin t at r
-    from (Word a e) w = (omega (arith, w.0), w.1, w.2)
-    from (Quoted a e) w = (omega (arith, w.0), w.1, w.2)
-    from (Mark c e) w = (omega (arith, w.0), w.1)
-    from End w = tt
-    from Bad w = tt
+    from : (r : Found Token) → ReadsWithin t i r → ReadsWithin t at r
+    from (Some (Word a e)) w = (omega (arith, w.0), w.1, w.2)
+    from (Some (Quoted a e)) w = (omega (arith, w.0), w.1, w.2)
+    from (Some (Mark c e)) w = (omega (arith, w.0), w.1)
+    from (Some End) w = tt
+    from None w = tt
 
 module _ (t : Text) (at : ℕ) (h : at < length t) where
   starts : drop at t ≡ get_or t at 0 ∷ drop (at + 1) t
@@ -93,7 +91,7 @@ module _ (t : Text) (at : ℕ) (h : at < length t) where
       ap (λ (n : ℕ). take n (drop at t)) z ∙ ap (take (suc (e - (at + 1)))) starts
 
   module _ (p : Bool) (a : p ≡ alnum (get_or t at 0)) where
-    pub token_word : p ≡ true → (e : ℕ) → RunsTo (in_run false) t (at + 1) e → Reads t at (token_at (drop at t)) (Word at e)
+    pub token_word : p ≡ true → (e : ℕ) → RunsTo (in_run false) t (at + 1) e → Reads t at (token_at (drop at t)) (Some (Word at e))
     unfolding token_at next_of in_run
     token_word y e w =
         let l : at < e = (let f = w.from in omega arith) in
@@ -105,7 +103,7 @@ module _ (t : Text) (at : ℕ) (h : at < length t) where
         }
 
     module _ (n : p ≡ false) (q : Bool) (b : q ≡ is_mark (get_or t at 0)) where
-      pub token_mark : q ≡ true → Reads t at (token_at (drop at t)) (Mark (get_or t at 0) (at + 1))
+      pub token_mark : q ≡ true → Reads t at (token_at (drop at t)) (Some (Mark (get_or t at 0) (at + 1)))
       unfolding token_at next_of
       token_mark y = record {
         is = sym (ap token_at starts ∙ if-false _ _ _ (sym a ∙ n) ∙ if-true _ _ _ (sym b ∙ y));
@@ -117,14 +115,14 @@ module _ (t : Text) (at : ℕ) (h : at < length t) where
         unfolding token_at quoted_from
         other = ap token_at starts ∙ if-false _ _ _ (sym a ∙ n) ∙ if-false _ _ _ (sym b ∙ m)
 
-        pub token_quoted : get_or t at 0 ≡ 34 → (r : Token) → Reads t (at + 1) (quoted_from (drop (at + 1) t)) r
+        pub token_quoted : get_or t at 0 ≡ 34 → (r : Found Token) → Reads t (at + 1) (quoted_from (drop (at + 1) t)) r
             → Reads t at (token_at (drop at t)) r
         token_quoted y r s = reads_from t at (at + 1) _ r (omega arith) (record {
           is = s.is ∙ sym (other ∙ if-true _ _ _ (=?-in _ _ y));
           within = s.within;
         })
 
-        pub token_bad : get_or t at 0 ≢ 34 → Reads t at (token_at (drop at t)) Bad
+        pub token_bad : get_or t at 0 ≢ 34 → Reads t at (token_at (drop at t)) None
         unfolding next_of
         token_bad y = record {
           is = sym (other ∙ if-false _ _ _ (=?-not _ _ y));
@@ -133,33 +131,36 @@ module _ (t : Text) (at : ℕ) (h : at < length t) where
 
 -- ---- the next token
 
-pub next_open : (t : Text) (at : ℕ) (s : Skipped) → Skips t at s → s ≡ Open → Reads t at (next_token (drop at t)) Bad
+pub next_open : (t : Text) (at : ℕ) (s : Found ℕ) → Skips t at s → s ≡ None → Reads t at (next_token (drop at t)) None
 unfolding next_token skipped rest_from next_of
 next_open t at s w e =
     let z : skip false (drop at t) ≡ none = sym w.is ∙ ap (rest_from t) e in record { is = rw z; within = tt }
 
-module _ (t : Text) (at : ℕ) (s : Skipped) (i : ℕ) (w : Skips t at s) (e : s ≡ To i) where
+module _ (t : Text) (at : ℕ) (s : Found ℕ) (i : ℕ) (w : Skips t at s) (e : s ≡ Some i) where
   pub skipped_to : next_token (drop at t) ≡ token_at (drop i t)
   unfolding next_token skipped rest_from
   skipped_to = ap skipped (sym w.is ∙ ap (rest_from t) e)
 
-  pub next_end : length t ≤ i → Reads t at (next_token (drop at t)) End
+  pub next_end : length t ≤ i → Reads t at (next_token (drop at t)) (Some End)
   unfolding token_at next_of
   next_end h = record { is = sym (skipped_to ∙ ap token_at (drop_of_length-le t h)); within = tt }
 
-  pub next_at : (r : Token) → Reads t i (token_at (drop i t)) r → Reads t at (next_token (drop at t)) r
+  pub next_at : (r : Found Token) → Reads t i (token_at (drop i t)) r → Reads t at (next_token (drop at t)) r
   next_at r k =
       reads_from t at i _ r (subst (SkipsWithin t at) e w.within).0
       (record { is = k.is ∙ sym skipped_to; within = k.within })
 
 -- ---- where a token that was read lies
 
-module _ (t : Text) (at : ℕ) (n : Next) (r : Token) (s : Reads t at n r) where
-  pub word_within : (a e : ℕ) → r ≡ Word a e → (at ≤ a) × (a < e) × (e ≤ length t)
-  word_within a e q = subst (ReadsWithin t at) q s.within
+module _ (t : Text) (at : ℕ) (n : Next) (r : Found Token) (s : Reads t at n r) (k : Token) (h : r ≡ Some k) where
+  pub within : (j : Token) → k ≡ j → ReadsWithin t at (Some j)
+  within j q = subst (ReadsWithin t at) (h ∙ ap (λ x. Some x) q) s.within
 
-  pub quoted_within : (a e : ℕ) → r ≡ Quoted a e → (at ≤ a) × (a < e) × (e < length t)
-  quoted_within a e q = subst (ReadsWithin t at) q s.within
+  pub word_within : (a e : ℕ) → k ≡ Word a e → (at ≤ a) × (a < e) × (e ≤ length t)
+  word_within a e q = within (Word a e) q
 
-  pub mark_within : (c e : ℕ) → r ≡ Mark c e → (at < e) × (e ≤ length t)
-  mark_within c e q = subst (ReadsWithin t at) q s.within
+  pub quoted_within : (a e : ℕ) → k ≡ Quoted a e → (at ≤ a) × (a < e) × (e < length t)
+  quoted_within a e q = within (Quoted a e) q
+
+  pub mark_within : (c e : ℕ) → k ≡ Mark c e → (at < e) × (e ≤ length t)
+  mark_within c e q = within (Mark c e) q

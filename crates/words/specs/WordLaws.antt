@@ -1,5 +1,5 @@
 -- The word that begins at a position: a law for each way out of the code, and where such a word lies.
-use Rattle.std.specs.Prelude.{Bool, false, true, [], ◌++◌, ◌∷◌, ◌≡◌, refl, ◌+◌, ◌-◌, ◌<◌, ◌≤◌, ℕ, drop, get_or, take}
+use Rattle.std.specs.Prelude.{Bool, None, Option as Found, Some, false, true, [], ◌++◌, ◌∷◌, ◌≡◌, refl, ◌+◌, ◌-◌, ◌<◌, ◌≤◌, ℕ, drop, get_or, take}
 use Rattle.std.proofs.Common.{inl, inr, ◌∙◌, subst, sym, add-one, drop_of_length-le, length-append, length-drop, drop-cons, drop-drop}
 use Rattle.std.proofs.Math.Option.{none}
 use Rattle.std.proofs.Math.Path.{ap}
@@ -11,8 +11,6 @@ use Rattle.sets.specs.TestLaws.{bool?, clash, if-false, if-true}
 use Rattle.sets.specs.Tests.{◌&◌, ◌=?◌, if?◌then◌else◌}
 use Rattle.text.specs.Bytes.{Text, alnum, is_mark, name_byte, short}
 use Rattle.text.specs.Tokens.{Next, bad, closing, end, mark, next_token, past, quoted, run, token, token_at, word}
-use Rattle.words.specs.declared.Skipped.{Skipped}
-use Rattle.words.specs.declared.Skipped.TheVariants.{To, Open}
 use Rattle.words.specs.Reading.{RunsTo, Skips, SkipsWithin, in_run, next_of, part, word_at, word_of}
 use Rattle.words.specs.TokenLaws.{next_open, part_length, skipped_to, token_word}
 
@@ -140,18 +138,18 @@ module _ (t : Text) (at e : ℕ) (q : e ≡ at + length (word_at (drop at t))) w
 
 -- ---- the next token, by where it begins and the word there
 
-module _ (t : Text) (at : ℕ) (s : Skipped) (k : Skips t at s) where
-  pub word_open : s ≡ Open → word_of (next_token (drop at t)) ≡ none
+module _ (t : Text) (at : ℕ) (s : Found ℕ) (k : Skips t at s) where
+  pub word_open : s ≡ None → word_of (next_token (drop at t)) ≡ none
   unfolding word_of next_of
   word_open e = ap word_of (sym (next_open t at s k e).is)
 
-  pub start_within : (a : ℕ) → s ≡ To a → (at ≤ a) × (a ≤ length t)
+  pub start_within : (a : ℕ) → s ≡ Some a → (at ≤ a) × (a ≤ length t)
   start_within a q = subst (SkipsWithin t at) q k.within
 
-  pub start_inside : (a : ℕ) → s ≡ To a → a ≤ length t
+  pub start_inside : (a : ℕ) → s ≡ Some a → a ≤ length t
   start_inside a q = (start_within a q).1
 
-  module _ (a : ℕ) (q : s ≡ To a) (w : Text) (p : w ≡ word_at (drop a t)) where
+  module _ (a : ℕ) (q : s ≡ Some a) (w : Text) (p : w ≡ word_at (drop a t)) where
     pub word_none : length w ≡ 0 → word_of (next_token (drop at t)) ≡ none
     word_none h = ap word_of (skipped_to t at s a k q) ∙ no_word (drop a t) (sym (ap length p) ∙ h)
 

@@ -11,22 +11,14 @@ ghost use Rattle.words.specs.Keywords.{keyword_count};
 ghost use Rattle.words.specs.Reading.{passes, stays_open, in_run, Skips, RunsTo, quoted_from, word_at, Reads, keyword_hashes, hash_of};
 ghost use Rattle.sets.specs.Answered.{answered};
 
-// Where the next token or the end of the text stands; or a comment is left open.
-#[derive(Clone, Copy)]
-pub enum Skipped {
-    To(usize),
-    Open,
-}
-
-// A word from its start to its end; what stands within an implementation's quotes; a mark and the position after it; the end
-// of the text; or what is no token.
+// A word from its start to its end; what stands within an implementation's quotes; a mark and the position after it; or the end of the
+// text.
 #[derive(Clone, Copy)]
 pub enum Token {
     Word(usize, usize),
     Quoted(usize, usize),
     Mark(u8, usize),
     End,
-    Bad,
 }
 
 // ---- bytes
@@ -72,7 +64,8 @@ fn stays_open(inside: bool, c: u8) -> bool
     if inside { c != b'}' } else { c == b'{' }
 }
 
-pub fn next_start(text: &[u8], at: usize) -> Skipped
+// Where the next token or the end of the text stands; none where a comment is left open.
+pub fn next_start(text: &[u8], at: usize) -> Option<usize>
     requires { at ≤ length text.now }
     ensures { Skips text.now at result }
 {
@@ -80,15 +73,11 @@ pub fn next_start(text: &[u8], at: usize) -> Skipped
     for i in at..text.len() {
         let c = text[i];
         if !does_pass(inside, c) {
-            return Skipped::To(i);
+            return Some(i);
         }
         inside = stays_open(inside, c);
     }
-    if inside {
-        Skipped::Open
-    } else {
-        Skipped::To(text.len())
-    }
+    if inside { None } else { Some(text.len()) }
 }
 
 // ---- tokens
@@ -105,45 +94,44 @@ pub fn run_end(text: &[u8], at: usize, quoted: bool) -> usize
 }
 
 // The implementation whose opening quote stands before `at`.
-fn quoted_at(text: &[u8], at: usize) -> Token
+fn quoted_at(text: &[u8], at: usize) -> Option<Token>
     requires { at ≤ length text.now }
     ensures { Reads text.now at (quoted_from (drop at text.now)) result }
 {
     let end = run_end(text, at, true);
     if end < text.len() && text[end] == b'"' && at < end && end - at <= 32 {
-        Token::Quoted(at, end)
+        Some(Token::Quoted(at, end))
     } else {
-        Token::Bad
+        None
     }
 }
 
 // The token whose first byte stands at `at`.
-fn token_at(text: &[u8], at: usize) -> Token
+fn token_at(text: &[u8], at: usize) -> Option<Token>
     requires { at < length text.now }
     ensures { Reads text.now at (token_at (drop at text.now)) result }
 {
     let c = text[at];
     if is_alnum(c) {
-        return Token::Word(at, run_end(text, at + 1, false));
+        return Some(Token::Word(at, run_end(text, at + 1, false)));
     }
     if is_mark(c) {
-        return Token::Mark(c, at + 1);
+        return Some(Token::Mark(c, at + 1));
     }
     if c == b'"' {
         return quoted_at(text, at + 1);
     }
-    Token::Bad
+    None
 }
 
-pub fn next_token(text: &[u8], at: usize) -> Token
+// The next token, or none where what stands there is no token.
+pub fn next_token(text: &[u8], at: usize) -> Option<Token>
     requires { at ≤ length text.now }
     ensures { Reads text.now at (next_token (drop at text.now)) result }
 {
-    let Skipped::To(i) = next_start(text, at) else {
-        return Token::Bad;
-    };
+    let i = next_start(text, at)?;
     if text.len() <= i {
-        return Token::End;
+        return Some(Token::End);
     }
     token_at(text, i)
 }
@@ -171,8 +159,7 @@ pub fn word<'a>(text: &'a [u8], at: usize) -> &'a [u8]
     &text[at..end]
 }
 
-// A part of the text that was read before. A reader that answers more than the word itself answers where it starts and ends, because a struct
-// that holds a slice is not covered as a result.
+// A part of the text that was read before, from where it starts up to its end.
 pub fn part<'a>(text: &'a [u8], start: usize, end: usize) -> &'a [u8]
     requires { (start ≤ end) × (end ≤ length text.now) }
     ensures { result.now ≡ take (end - start) (drop start text.now) }

@@ -23,9 +23,10 @@ use Rattle.write_bytes.specs.ByName.{first_by_name}
 use Rattle.write_bytes.specs.ByNameLaws.{first_none, listed_below, next_is}
 use Rattle.write_line.specs.ComponentLaws.{below_same}
 use Rattle.write_line.specs.Lines.{is_next, next_system}
-use Rattle.write_bytes.specs.Room.{Puts}
-use Rattle.write_bytes.specs.RoomLaws.{Partly, partly_as, partly_end, partly_keeps, partly_more, partly_start}
-use Rattle.write_bytes.specs.declared.Room.{Room}
+use Rattle.write_bytes.specs.RoomLaws.{partly_keeps}
+use Rattle.write_bytes.specs.Writes.{Writes}
+use Rattle.write_bytes.specs.WritesLaws.{WritesPartly, writing_as, writing_end, writing_more, writing_start}
+use Rattle.write_bytes.specs.declared.writer.Writer.{Writer}
 
 -- ---- whether a system is next
 
@@ -94,25 +95,24 @@ unfolding next_system
 next_below Y t s out k e = listed_below t components s k (first_elem _ _ k e)
 
 -- i systems are out, which are the set d
-pub record InOrder (w : Text) (f : ℕ → Text) (Y : Systems) (t : Table) (i : ℕ) (d : Set) (p q : Room) (a c : List ℕ) : Type 0 where
+pub record InOrder (w : Text) (f : ℕ → Text) (Y : Systems) (t : Table) (i : ℕ) (d : Set) (p q : Writer) : Type 0 where
   pub out : List ℕ
   pub is : d ≡ (λ x. elem x out)
-  pub part : Partly w (joined (map f (systems_from (32 - i) Y (by_name t components (is_system Y)) out))) p q a c
+  pub part : WritesPartly w (joined (map f (systems_from (32 - i) Y (by_name t components (is_system Y)) out))) p q
 
-pub order_start : (f : ℕ → Text) (Y : Systems) (t : Table) (p : Room) (a : List ℕ)
-    → InOrder (joined (map f (systems_from components Y (by_name t components (is_system Y)) []))) f Y t 0 (bit 0) p p a a
+pub order_start : (f : ℕ → Text) (Y : Systems) (t : Table) (p : Writer)
+    → InOrder (joined (map f (systems_from components Y (by_name t components (is_system Y)) []))) f Y t 0 (bit 0) p p
 unfolding elem
-order_start f Y t p a = record { out = []; is = fun_ext (λ x. bit_zero x); part = partly_start _ p a }
+order_start f Y t p = record { out = []; is = fun_ext (λ x. bit_zero x); part = writing_start _ p }
 
-module _ {w : Text} {f : ℕ → Text} {Y : Systems} {t : Table} {i : ℕ} {d : Set} {p q : Room} {a c : List ℕ}
-    (g : InOrder w f Y t i d p q a c) where
-  pub order_keeps : length c ≡ length a
-  order_keeps = partly_keeps g.part
+module _ {w : Text} {f : ℕ → Text} {Y : Systems} {t : Table} {i : ℕ} {d : Set} {p q : Writer} (g : InOrder w f Y t i d p q) where
+  pub order_keeps : length q.out.now ≡ length p.out.now
+  order_keeps = partly_keeps g.part.partly
 
-  pub order_end : 32 ≤ i → Puts w p q a c
+  pub order_end : 32 ≤ i → Writes w p q
   unfolding systems_from joined
   order_end h =
-      partly_end (partly_as (ap (λ (n : ℕ). joined (map f (systems_from n Y (by_name t components (is_system Y)) g.out)))
+      writing_end (writing_as (ap (λ (n : ℕ). joined (map f (systems_from n Y (by_name t components (is_system Y)) g.out)))
       (let z : 32 - i ≡ 0 = omega arith in z)) g.part)
 
   module _ (systems : Set) (sys : systems ≡ below components (is_system Y)) where
@@ -126,19 +126,19 @@ module _ {w : Text} {f : ℕ → Text} {Y : Systems} {t : Table} {i : ℕ} {d : 
     more : i < 32 → 32 - i ≡ suc (32 - (i + 1))
     more l = omega arith
 
-    pub order_stop : i < 32 → next_system Y t systems d ≡ none → Puts w p q a c
+    pub order_stop : i < 32 → next_system Y t systems d ≡ none → Writes w p q
     unfolding joined
     order_stop l h =
-        partly_end (partly_as (ap (λ (m : List ℕ). joined (map f m)) (ap (λ (n : ℕ). systems_from n Y (by_name t components (is_system Y)) g.out)
+        writing_end (writing_as (ap (λ (m : List ℕ). joined (map f m)) (ap (λ (n : ℕ). systems_from n Y (by_name t components (is_system Y)) g.out)
         (more l) ∙ from-none _ Y _ g.out (sym same_found ∙ h))) g.part)
 
-    pub order_turn : i < 32 → {k : ℕ} → next_system Y t systems d ≡ some k → {r : Room} {c' : List ℕ} {d' : Set} → Puts (f k) q r c c'
-        → d' ≡ with d k → InOrder w f Y t (i + 1) d' p r a c'
+    pub order_turn : i < 32 → {k : ℕ} → next_system Y t systems d ≡ some k → {r : Writer} {d' : Set} → Writes (f k) q r
+        → d' ≡ with d k → InOrder w f Y t (i + 1) d' p r
     unfolding joined with elem
     order_turn l {k} h u v = record {
       out = k ∷ g.out;
       is = v ∙ ap (λ (o : Set). with o k) g.is;
-      part = partly_more (partly_as (ap (λ (m : List ℕ). joined (map f m))
+      part = writing_more (writing_as (ap (λ (m : List ℕ). joined (map f m))
           (ap (λ (n : ℕ). systems_from n Y (by_name t components (is_system Y)) g.out)
           (more l) ∙ from_some _ Y _ g.out k (sym same_found ∙ h))) g.part) u;
     }

@@ -13,11 +13,8 @@ use Rattle.text.specs.Written.{as_commands, by_name, line, mod_of, parted, spec_
 use Rattle.write_bytes.specs.ByName.{listed}
 use Rattle.write_line.specs.ComponentLaws.{below_same}
 use Rattle.write_line.specs.Lines.{has_line, line_of, system_lines}
-use Rattle.write_bytes.specs.Room.{Puts}
-use Rattle.write_bytes.specs.RoomLaws.{puts_as, puts_then}
 use Rattle.write_version.specs.declared.Kind.{Kind}
 use Rattle.write_version.specs.declared.Kind.TheVariants.{Module, Spec}
-use Rattle.write_bytes.specs.declared.Room.{Room}
 
 parted_joined : (l : List Text) → parted [] l ≡ joined l
 unfolding parted joined
@@ -66,11 +63,10 @@ module _ (b : Book) (cs vs fs is : List ℕ) where
       ∙ ap₂ (λ (v w : Text). v ++ w) (ap joined (map-map line (spec_of b t) ss))
       (ap₂ (λ (v w : Text). v ++ w) (ap joined (map-map line (mod_of b t) ms)) (ap joined (map-map line (sys_of b t) ys))))
 
-  pub text_is : {s m : Set} {p q r t : Room} {x y z o : List ℕ} → s ≡ below components (has_line Spec b)
-      → m ≡ below components (has_line Module b)
-      → Puts (listed [] (line_of Spec b (tables_of cs vs fs is)) (table_of components cs) components s) p q x y
-      → Puts (listed [] (line_of Module b (tables_of cs vs fs is)) (table_of components cs) components m) q r y z
-      → Puts (system_lines b (tables_of cs vs fs is)) r t z o → Puts (written b (tables_of cs vs fs is)) p t x o
+  pub text_is : {s m : Set} → s ≡ below components (has_line Spec b) → m ≡ below components (has_line Module b)
+      → listed [] (line_of Spec b (tables_of cs vs fs is)) (table_of components cs) components s
+      ++ (listed [] (line_of Module b (tables_of cs vs fs is)) (table_of components cs) components m ++ system_lines b (tables_of cs vs fs is))
+      ≡ written b (tables_of cs vs fs is)
   unfolding has_line
-  text_is {s = s} {m = m} d e f g h =
-      puts_as text_parts (puts_then (puts_as (lines_of Spec s d) f) (puts_then (puts_as (lines_of Module m e) g) h))
+  text_is {s = s} {m = m} d e =
+      ap₂ (λ (x y : Text). x ++ (y ++ system_lines b (tables_of cs vs fs is))) (lines_of Spec s d) (lines_of Module m e) ∙ text_parts

@@ -6,7 +6,7 @@ ghost use Rattle.sets.specs.Answered.{answered};
 ghost use Rattle.sets.specs.Sets.{bit, below};
 ghost use Rattle.text.specs.Written.{written};
 ghost use Rattle.names.specs.Stored.{table_of, tables};
-ghost use Rattle.write_bytes.specs.Room.{Puts};
+ghost use Rattle.write_bytes.specs.Writes.{Writes};
 ghost use Rattle.write_bytes.specs.ByName.{listed};
 ghost use Rattle.write_line.specs.Lines.{line_of, has_line, is_next, next_system, system_lines};
 ghost use Rattle.model.specs.Book.{is_system};
@@ -15,21 +15,19 @@ ghost use Rattle.write_bytes.specs.Written.{wrote, starting_with};
 
 use book::Book;
 use names::Names;
-use write_bytes::{Room, Wrote};
+use write_bytes::Writer;
 use write_version::Kind;
 
 // The lines of a set of components.
-fn put_lines(out: &mut [u8], room: Room, book: &Book, names: &Names, kind: Kind, set: u64) -> Room
-    ensures { Puts (listed [] (line_of kind (plain book.now) (tables names.now)) (table_of 32 names.now.comps) 32 (bit set))
-        room result out.old out.new }
+fn put_lines(writer: &mut Writer<'_>, book: &Book, names: &Names, kind: Kind, set: u64)
+    ensures { Writes (listed [] (line_of kind (plain book.now) (tables names.now)) (table_of 32 names.now.comps) 32 (bit set))
+        writer.old writer.new }
 {
-    let mut after = room;
     let mut rest = set;
     while let Some(c) = write_order::first_by_name(&names.comps, 32, rest) {
-        after = write_line::put_line(out, after, book, names, kind, c);
+        write_line::put_line(writer, book, names, kind, c);
         rest = sets::without(rest, c);
     }
-    after
 }
 
 // ---- the components that have a line
@@ -85,56 +83,38 @@ fn next_system(book: &Book, comps: &[u8; 1056], systems: u64, done: u64) -> Opti
 }
 
 // The lines of the systems, which are the set.
-fn put_systems(out: &mut [u8], room: Room, book: &Book, names: &Names, systems: u64) -> Room
+fn put_systems(writer: &mut Writer<'_>, book: &Book, names: &Names, systems: u64)
     requires { bit systems ≡ below 32 (is_system (systems_of book.now.sets book.now.numbers)) }
-    ensures { Puts (system_lines (plain book.now) (tables names.now)) room result out.old out.new }
+    ensures { Writes (system_lines (plain book.now) (tables names.now)) writer.old writer.new }
 {
-    let mut after = room;
     let mut done: u64 = 0;
     for i in 0usize..32 {
         let Some(s) = next_system(book, &names.comps, systems, done) else {
-            return after;
+            return;
         };
-        after = write_line::put_line(out, after, book, names, Kind::System, s);
+        write_line::put_line(writer, book, names, Kind::System, s);
         done = sets::with(done, s);
     }
-    after
 }
 
 // ---- the text of a book
 
 // "specs, modules, systems, each by rising bytes of the name"
-pub fn put_text(out: &mut [u8], room: Room, book: &Book, names: &Names) -> Room
-    ensures { Puts (written (plain book.now) (tables names.now)) room result out.old out.new }
+pub fn put_text(writer: &mut Writer<'_>, book: &Book, names: &Names)
+    ensures { Writes (written (plain book.now) (tables names.now)) writer.old writer.new }
 {
     let specs = components_of(book, Kind::Spec);
     let modules = components_of(book, Kind::Module);
     let systems = components_of(book, Kind::System);
-    let a = put_lines(out, room, book, names, Kind::Spec, specs);
-    let b = put_lines(out, a, book, names, Kind::Module, modules);
-    put_systems(out, b, book, names, systems)
+    put_lines(writer, book, names, Kind::Spec, specs);
+    put_lines(writer, book, names, Kind::Module, modules);
+    put_systems(writer, book, names, systems);
 }
 
 // The text of a book with its tables at the start of a lent slice; nothing of it where it does not fit.
-pub fn text(out: &mut [u8], book: &Book, names: &Names) -> Wrote
-    ensures value { result ≡ wrote (written (plain book.now) (tables names.now)) out.old }
+pub fn text(out: &mut [u8], book: &Book, names: &Names) -> Option<usize>
+    ensures value { answered result ≡ wrote (written (plain book.now) (tables names.now)) out.old }
     ensures out_after { out.new ≡ starting_with (written (plain book.now) (tables names.now)) out.old }
 {
-    let room = Room {
-        fits: true,
-        left: out.len(),
-    };
-    let mut nothing = [0; 0];
-    let measured = put_text(&mut nothing, room, book, names);
-    if !measured.fits {
-        return Wrote {
-            fits: false,
-            len: 0,
-        };
-    }
-    put_text(out, room, book, names);
-    Wrote {
-        fits: true,
-        len: room.left - measured.left,
-    }
+    write_bytes::write_whole(out, |writer| put_text(writer, book, names))
 }

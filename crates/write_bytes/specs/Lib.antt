@@ -7,3 +7,6 @@ pub mod BeforeLaws
 pub mod ByNameLaws
 pub mod Written
 pub mod WrittenLaws
+pub mod Writes
+pub mod WritesLaws
+pub mod MeasuredLaws

@@ -1,9 +1,18 @@
 -- Text written piece by piece into the rest of a slice.
-use Rattle.std.specs.Prelude.{true, List, ◌++◌, ◌≡◌, ◌+◌, ◌-◌, ◌≤◌, ℕ, length, take}
+use Rattle.std.specs.Prelude.{Bool, false, true, List, None, Option, Some, ◌++◌, ◌≡◌, ◌+◌, ◌-◌, ◌≤◌, ℕ, length, take}
 use Rattle.seqs.specs.Filled.{filled}
 use Rattle.sets.specs.Tests.{◌&◌, ◌≤?◌}
 use Rattle.text.specs.Bytes.{Text}
-use Rattle.write_bytes.specs.declared.Room.{Room}
+
+-- The room for what is still to be written: whether all up to now did fit, and then how many bytes are left.
+pub record Room : Type 0 where
+  pub fits : Bool
+  pub left : ℕ
+
+-- the room that a writer has: none once something did not fit
+abbrev pub room_of : Option ℕ → Room
+room_of (Some n) = record { fits = true; left = n }
+room_of None = record { fits = false; left = 0 }
 
 -- the slice with w at the start of its last n bytes
 unfoldable pub written_in : ℕ → Text → List ℕ → List ℕ

@@ -1,5 +1,5 @@
 -- Laws of writing piece by piece: one word, one piece after another, and a loop that has written a part.
-use Rattle.std.specs.Prelude.{Bool, false, not, true, List, [], ◌++◌, ◌≡◌, refl, ◌+◌, ◌-◌, ◌<◌, ◌≤◌, ℕ}
+use Rattle.std.specs.Prelude.{Bool, None, Some, false, not, true, List, [], ◌++◌, ◌≡◌, refl, ◌+◌, ◌-◌, ◌<◌, ◌≤◌, ℕ}
 use Rattle.std.proofs.Common.{append_assoc, append-nil, ◌∙◌, subst, zero-le, add-zero, arith, length-append, take-append-drop}
 use Rattle.std.proofs.Math.Path.{ap, sym}
 use Rattle.std.proofs.lemmas.Bool.{not-false, not-true}
@@ -8,57 +8,58 @@ use Rattle.std.proofs.Math.Seq.{length-take-le}
 use Rattle.seqs.specs.Filled.{filled}
 use Rattle.seqs.specs.FilledLaws.{filled_at, filled-length}
 use Rattle.seqs.specs.RestLaws.{rest_copied}
-use Rattle.sets.specs.TestLaws.{and_in, and_l, and_r, clash, if-false, if-true, iff→≡, ≤?_in, ≤?_out}
+use Rattle.sets.specs.TestLaws.{and-false, and-true, and_in, and_l, and_r, clash, fails, if-false, if-true, iff→≡, ≤?_in, ≤?_out}
 use Rattle.sets.specs.Tests.{◌&◌, ◌≤?◌, if?◌then◌else◌}
 use Rattle.text.specs.Bytes.{Text}
-use Rattle.write_bytes.specs.Room.{Puts, written_in}
-use Rattle.write_bytes.specs.declared.Room.{Room}
+use Rattle.write_bytes.specs.Room.{Puts, Room, room_of, written_in}
 
 -- ---- one word
 
-pub put_enough : (p : Room) (n : ℕ) {r : Bool} → r ≡ (p.fits & n ≤? p.left) → not r ≡ false → n ≤ p.left
-put_enough p n e h = ≤?_out _ _ (and_r _ _ (sym e ∙ not-false _ h))
-
-module _ (w : Text) (p : Room) (old : List ℕ) {r : Bool} (e : r ≡ (p.fits & length w ≤? p.left)) where
-  pub put_miss : not r ≡ true → Puts w p (record { fits = false; left = p.left }) old old
-  put_miss h = record {
-    fits = sym (not-true _ h) ∙ e;
+module _ (w : Text) (old : List ℕ) where
+  pub put_after_miss : Puts w (room_of None) (room_of None) old old
+  put_after_miss = record {
+    fits = sym (and-false _ _ refl);
     left = λ t. clash t refl;
     keeps = refl;
     holds = λ t l. clash t refl;
   }
 
-  module _ (h : not r ≡ false) where
-    fit : (p.fits & length w ≤? p.left) ≡ true
-    fit = sym e ∙ not-false _ h
-
-    enough : length w ≤ p.left
-    enough = ≤?_out _ _ (and_r _ _ fit)
-
-    -- a slice that is too short is not written
-    pub put_measured : length old < p.left → Puts w p (record { fits = true; left = p.left - length w }) old old
-    put_measured g = let n = enough in record {
-      fits = sym fit;
-      left = λ t. omega arith;
+  module _ (n : ℕ) where
+    pub put_miss : n < length w → Puts w (room_of (Some n)) (room_of None) old old
+    put_miss h = record {
+      fits = sym (and-true _ _ refl ∙ fails _ (λ t. let l = ≤?_out _ _ t in absurd (omega arith)));
+      left = λ t. clash t refl;
       keeps = refl;
-      holds = λ t l. absurd (omega arith);
+      holds = λ t l. clash t refl;
     }
 
-    pub put_written : (a : ℕ) (ys : List ℕ) → p.left ≤ length old → a ≡ length old - p.left
-        → ys ≡ take (length w) w ++ drop (length w) (take (length old - a) (drop a old))
-        → Puts w p (record { fits = true; left = p.left - length w }) old (take a old ++ (ys ++ drop (length old - a) (drop a old)))
-    unfolding written_in filled
-    put_written a ys g d c =
-        let n = enough in
-        let l : length (take a old) ≡ a = length-take-le a old (omega arith) in
-        let q : take a old ++ (ys ++ drop (length old - a) (drop a old)) ≡ filled (take a old ++ w) old =
-        rest_copied old w ys a c ∙ rw (length-append, l, append_assoc) in
-        record {
-          fits = sym fit;
-          left = λ t. omega arith;
-          keeps = ap length q ∙ filled-length (take a old ++ w) old (rw (length-append, l) (omega arith));
-          holds = λ t k. q ∙ ap (λ (i : ℕ). filled (take i old ++ w) old) d;
-        }
+    module _ (m : ℕ) (e : m + length w ≡ n) where
+      fit : true ≡ (true & length w ≤? n)
+      fit = sym (and_in _ _ refl (≤?_in _ _ (omega arith)))
+
+      -- a slice that is too short is not written
+      pub put_measured : length old < n → Puts w (room_of (Some n)) (room_of (Some m)) old old
+      put_measured g = record {
+        fits = fit;
+        left = λ t. e;
+        keeps = refl;
+        holds = λ t l. absurd (omega arith);
+      }
+
+      pub put_written : (a : ℕ) (ys : List ℕ) → n ≤ length old → a ≡ length old - n
+          → ys ≡ take (length w) w ++ drop (length w) (take (length old - a) (drop a old))
+          → Puts w (room_of (Some n)) (room_of (Some m)) old (take a old ++ (ys ++ drop (length old - a) (drop a old)))
+      unfolding written_in filled
+      put_written a ys g d c =
+          let l : length (take a old) ≡ a = length-take-le a old (omega arith) in
+          let q : take a old ++ (ys ++ drop (length old - a) (drop a old)) ≡ filled (take a old ++ w) old =
+          rest_copied old w ys a c ∙ rw (length-append, l, append_assoc) in
+          record {
+            fits = fit;
+            left = λ t. e;
+            keeps = ap length q ∙ filled-length (take a old ++ w) old (rw (length-append, l) (omega arith));
+            holds = λ t k. q ∙ ap (λ (i : ℕ). filled (take i old ++ w) old) d;
+          }
 
 -- ---- one piece after another
 

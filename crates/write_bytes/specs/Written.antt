@@ -1,5 +1,6 @@
 -- A text at the start of a slice, whole or not at all.
-use Rattle.std.specs.Prelude.{false, true, List, ◌++◌, ◌≡◌, refl, ℕ, length}
+use Rattle.std.specs.Prelude.{List, ◌++◌, ◌≡◌, refl, ℕ, length}
+use Rattle.std.proofs.Math.Option.{Option, none, some}
 use Rattle.model.specs.Book.{components, versions}
 use Rattle.seqs.specs.Filled.{filled}
 use Rattle.sets.specs.Tests.{◌≤?◌, if?◌then◌else◌}
@@ -7,11 +8,10 @@ use Rattle.text.specs.Bytes.{Text, bytes}
 use Rattle.text.specs.Session.{pair_row}
 use Rattle.text.specs.Tables.{name_at}
 use Rattle.names.specs.Stored.{table_of, tables_of}
-use Rattle.write_bytes.specs.declared.Wrote.{Wrote}
 
--- whether the text fits the slice, and how many bytes are written
-unfoldable pub wrote : Text → List ℕ → Wrote
-wrote w old = if? length w ≤? length old then record { fits = true; len = length w } else record { fits = false; len = 0 }
+-- how many bytes are written: none where the text does not fit the slice
+unfoldable pub wrote : Text → List ℕ → Option ℕ
+wrote w old = if? length w ≤? length old then some (length w) else none
 
 -- the slice then: the bytes past the text, and the whole slice where it does not fit, are untouched
 unfoldable pub starting_with : Text → List ℕ → List ℕ

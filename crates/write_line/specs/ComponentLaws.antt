@@ -12,10 +12,7 @@ use Rattle.sets.specs.Tests.{◌&◌, ◌<?◌, ◌=?◌, ◌or◌}
 use Rattle.text.specs.Tables.{Table, Tables}
 use Rattle.text.specs.Written.{by_name, sorted}
 use Rattle.write_line.specs.Lines.{has_line, line_of}
-use Rattle.write_bytes.specs.Room.{Puts}
-use Rattle.write_bytes.specs.RoomLaws.{puts_as}
 use Rattle.write_version.specs.declared.Kind.{Kind}
-use Rattle.write_bytes.specs.declared.Room.{Room}
 
 -- the loop over the components
 pub set_start : (a : Set) → bit 0 ≡ below 0 a
@@ -77,9 +74,8 @@ below_same t n a = ap (sorted t) (from_below n 0 n a (omega arith))
 -- ---- one line
 
 module _ (b : Book) {k : Kind} where
-  module _ (t : Tables) (c : ℕ) {p q : Room} {x y : List ℕ} where
-    pub line_as : (i : Kind) → k ≡ i → Puts (line_of i b t c) p q x y → Puts (line_of k b t c) p q x y
-    line_as i e = puts_as (sym (ap (λ (j : Kind). line_of j b t c) e))
+  pub line_as : (t : Tables) (c : ℕ) (i : Kind) → k ≡ i → line_of i b t c ≡ line_of k b t c
+  line_as t c i e = sym (ap (λ (j : Kind). line_of j b t c) e)
 
   pub has_as : (i : Kind) (c : ℕ) {r : Bool} → k ≡ i → r ≡ has_line i b c → r ≡ has_line k b c
   has_as i c e f = f ∙ ap (λ (j : Kind). has_line j b c) (sym e)

@@ -3,7 +3,7 @@ use Rattle.std.specs.Prelude.{Bool, false, not, true, ◌≡◌, refl, ℕ}
 use mathlib.Core.List.{List, ◌++◌, map-map}
 use Rattle.std.proofs.Math.Logic.{inl, inr}
 use Rattle.std.proofs.Common.{◌∙◌}
-use Rattle.std.proofs.Math.Path.{ap, fun_ext, sym}
+use Rattle.std.proofs.Math.Path.{ap, ap₂, fun_ext, sym}
 use Rattle.std.proofs.lemmas.Bool.{not-false, not-true}
 use Rattle.book.specs.Plain.{modules_of, plain_of, specs_of, systems_of}
 use Rattle.book.specs.ReadLaws.{composition_plain, has_version_plain, implementation_plain, is_module_plain, is_system_plain}
@@ -21,11 +21,8 @@ use Rattle.model_laws.specs.MapLaws.{option_map-some}
 use Rattle.write_bytes.specs.ByName.{listed}
 use Rattle.write_line.specs.Lines.{ending_of, if_asked, versions_in}
 use Rattle.write_version.specs.Pieces.{mod_version, names_of, spec_version, sys_version, version_of}
-use Rattle.write_bytes.specs.Room.{Puts}
-use Rattle.write_bytes.specs.RoomLaws.{puts_as, puts_then}
 use Rattle.write_version.specs.declared.Kind.{Kind}
 use Rattle.write_version.specs.declared.Kind.TheVariants.{Module, Spec, System}
-use Rattle.write_bytes.specs.declared.Room.{Room}
 
 -- ---- the versions
 
@@ -78,36 +75,39 @@ module _ (s n : List ℕ) (c : ℕ) where
 
 -- ---- the ending
 
-pub ending_is : (k : Kind) (b : Book) (cs vs fs is : List ℕ) (c : ℕ) {s : Set} {p q r t : Room} {x y z o : List ℕ}
-    → s ≡ versions_in k b c → Puts (bytes "; ") p q x y
-    → Puts (listed (bytes "; ") (version_of k b (tables_of cs vs fs is) c) (table_of versions vs) versions s) q r y z
-    → Puts (bytes " end\n") r t z o → Puts (ending_of k b (tables_of cs vs fs is) c) p t x o
+pub ending_is : (k : Kind) (b : Book) (cs vs fs is : List ℕ) (c : ℕ) {s : Set} → s ≡ versions_in k b c
+    → bytes "; " ++ (listed (bytes "; ") (version_of k b (tables_of cs vs fs is) c) (table_of versions vs) versions s ++ bytes " end\n")
+    ≡ ending_of k b (tables_of cs vs fs is) c
 unfolding ending_of tables_of
-ending_is k b cs vs fs is c e f g h = puts_then f (puts_then (puts_as (ap (listed (bytes "; ") (version_of k b (tables_of cs vs fs is) c) (table_of versions vs) versions) e) g) h)
+ending_is k b cs vs fs is c e =
+    ap (λ (a : Set). bytes "; " ++ (listed (bytes "; ") (version_of k b (tables_of cs vs fs is) c) (table_of versions vs) versions a
+    ++ bytes " end\n")) e
 
 module _ (b : Book) (cs vs fs is : List ℕ) (c : ℕ) where
-  pub spec_line_is : {w : Text} {s : Set} {p q r t u v : Room} {x y z o m n : List ℕ} → w ≡ name_at (table_of components cs) c
-      → s ≡ provides b.specs c → Puts (bytes "spec ") p q x y → Puts w q r y z → Puts (bytes " provides ") r t z o
-      → Puts (names_of fs facilities s) t u o m → Puts (ending_of Spec b (tables_of cs vs fs is) c) u v m n
-      → Puts (line (spec_of b (tables_of cs vs fs is) c)) p v x n
+  pub spec_line_is : {w : Text} {s : Set} → w ≡ name_at (table_of components cs) c → s ≡ provides b.specs c
+      → bytes "spec " ++ (w ++ (bytes " provides " ++ (names_of fs facilities s ++ ending_of Spec b (tables_of cs vs fs is) c)))
+      ≡ line (spec_of b (tables_of cs vs fs is) c)
   unfolding line spec_of tables_of commas facility_names semicolons ending_of listed names_of version_of versions_in spec_version
-  spec_line_is e f g h i j k =
-      puts_then g (puts_then (puts_as e h) (puts_then i (puts_then (puts_as (ap (names_of fs facilities) f) j)
-      (puts_as (ap (λ (l : List Text). bytes "; " ++ (parted (bytes "; ") l ++ bytes " end\n")) (sym (map-map _ _ (by_name (table_of versions vs) versions (has_version b.specs c))))) k))))
+  spec_line_is e f =
+      ap₂ (λ (x y : Text). bytes "spec " ++ (x ++ (bytes " provides " ++ y))) e
+      (ap₂ (λ (x y : Text). x ++ y) (ap (names_of fs facilities) f)
+      (ap (λ (l : List Text). bytes "; " ++ (parted (bytes "; ") l ++ bytes " end\n"))
+      (sym (map-map _ _ (by_name (table_of versions vs) versions (has_version b.specs c))))))
 
-  pub mod_line_is : {w : Text} {p q r t : Room} {x y z o : List ℕ} → w ≡ name_at (table_of components cs) c
-      → Puts (bytes "mod ") p q x y → Puts w q r y z → Puts (ending_of Module b (tables_of cs vs fs is) c) r t z o
-      → Puts (line (mod_of b (tables_of cs vs fs is) c)) p t x o
+  pub mod_line_is : {w : Text} → w ≡ name_at (table_of components cs) c
+      → bytes "mod " ++ (w ++ ending_of Module b (tables_of cs vs fs is) c) ≡ line (mod_of b (tables_of cs vs fs is) c)
   unfolding line mod_of tables_of semicolons ending_of listed version_of versions_in mod_version
-  mod_line_is e g h k =
-      puts_then g (puts_then (puts_as e h)
-      (puts_as (ap (λ (l : List Text). bytes "; " ++ (parted (bytes "; ") l ++ bytes " end\n")) (sym (map-map _ _ (by_name (table_of versions vs) versions (λ v. is_some (implementation b.modules c v)))))) k))
+  mod_line_is e =
+      ap₂ (λ (x y : Text). bytes "mod " ++ (x ++ y)) e
+      (ap (λ (l : List Text). bytes "; " ++ (parted (bytes "; ") l ++ bytes " end\n"))
+      (sym (map-map _ _ (by_name (table_of versions vs) versions (λ v. is_some (implementation b.modules c v))))))
 
-  pub sys_line_is : {w : Text} {s : Set} {p q r t u v : Room} {x y z o m n : List ℕ} → w ≡ name_at (table_of components cs) c
-      → s ≡ usable b.systems c → Puts (bytes "sys ") p q x y → Puts w q r y z → Puts (bytes " use ") r t z o
-      → Puts (names_of cs components s) t u o m → Puts (ending_of System b (tables_of cs vs fs is) c) u v m n
-      → Puts (line (sys_of b (tables_of cs vs fs is) c)) p v x n
+  pub sys_line_is : {w : Text} {s : Set} → w ≡ name_at (table_of components cs) c → s ≡ usable b.systems c
+      → bytes "sys " ++ (w ++ (bytes " use " ++ (names_of cs components s ++ ending_of System b (tables_of cs vs fs is) c)))
+      ≡ line (sys_of b (tables_of cs vs fs is) c)
   unfolding line sys_of tables_of commas semicolons ending_of listed names_of version_of versions_in sys_version
-  sys_line_is e f g h i j k =
-      puts_then g (puts_then (puts_as e h) (puts_then i (puts_then (puts_as (ap (names_of cs components) f) j)
-      (puts_as (ap (λ (l : List Text). bytes "; " ++ (parted (bytes "; ") l ++ bytes " end\n")) (sym (map-map _ _ (by_name (table_of versions vs) versions (composed b.systems c))))) k))))
+  sys_line_is e f =
+      ap₂ (λ (x y : Text). bytes "sys " ++ (x ++ (bytes " use " ++ y))) e
+      (ap₂ (λ (x y : Text). x ++ y) (ap (names_of cs components) f)
+      (ap (λ (l : List Text). bytes "; " ++ (parted (bytes "; ") l ++ bytes " end\n"))
+      (sym (map-map _ _ (by_name (table_of versions vs) versions (composed b.systems c))))))

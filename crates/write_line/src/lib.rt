@@ -1,13 +1,12 @@
 // A line of a book's text: a spec, a module or a system with its versions.
 #![tactic(auto)]
 
-ghost use Rattle.std.specs.Prelude.{◌≡◌, [], ◌++◌, ◌<◌};
+ghost use Rattle.std.specs.Prelude.{◌≡◌, ◌<◌};
 ghost use Rattle.sets.specs.Sets.{bit};
-ghost use Rattle.sets.specs.Tests.{if?◌then◌else◌};
 ghost use Rattle.text.specs.Bytes.{bytes};
 ghost use Rattle.text.specs.Written.{line, spec_of, mod_of, sys_of};
 ghost use Rattle.names.specs.Stored.{table_of, tables};
-ghost use Rattle.write_bytes.specs.Room.{Puts};
+ghost use Rattle.write_bytes.specs.Writes.{Writes};
 ghost use Rattle.write_bytes.specs.ByName.{listed};
 ghost use Rattle.write_version.specs.Pieces.{version_of};
 ghost use Rattle.write_line.specs.Lines.{if_asked, versions_in, ending_of, line_of};
@@ -16,52 +15,34 @@ ghost use Rattle.book.specs.Plain.{plain, specs_of};
 
 use book::Book;
 use names::Names;
-use write_bytes::Room;
+use write_bytes::Writer;
 use write_version::Kind;
 
-fn put_version(
-    out: &mut [u8],
-    room: Room,
-    book: &Book,
-    names: &Names,
-    kind: Kind,
-    c: usize,
-    v: usize,
-) -> Room
+fn put_version(writer: &mut Writer<'_>, book: &Book, names: &Names, kind: Kind, c: usize, v: usize)
     requires { c < 32 }
-    ensures { Puts (version_of kind (plain book.now) (tables names.now) c v) room result out.old out.new }
+    ensures { Writes (version_of kind (plain book.now) (tables names.now) c v) writer.old writer.new }
 {
     match kind {
-        Kind::Spec => write_version::put_spec_version(out, room, book, names, c, v),
-        Kind::Module => write_version::put_mod_version(out, room, book, names, c, v),
-        Kind::System => write_version::put_sys_version(out, room, book, names, c, v),
+        Kind::Spec => write_version::put_spec_version(writer, book, names, c, v),
+        Kind::Module => write_version::put_mod_version(writer, book, names, c, v),
+        Kind::System => write_version::put_sys_version(writer, book, names, c, v),
     }
 }
 
 // The versions of a set: "Several versions are parted by "; "."
-fn put_versions(
-    out: &mut [u8],
-    room: Room,
-    book: &Book,
-    names: &Names,
-    kind: Kind,
-    c: usize,
-    set: u64,
-) -> Room
+fn put_versions(writer: &mut Writer<'_>, book: &Book, names: &Names, kind: Kind, c: usize, set: u64)
     requires { c < 32 }
-    ensures { Puts (listed (bytes "; ") (version_of kind (plain book.now) (tables names.now) c) (table_of 64 names.now.vers) 64 (bit set))
-        room result out.old out.new }
+    ensures { Writes (listed (bytes "; ") (version_of kind (plain book.now) (tables names.now) c) (table_of 64 names.now.vers) 64 (bit set))
+        writer.old writer.new }
 {
-    let mut after = room;
     let mut semicolon: &[u8] = b"";
     let mut rest = set;
     while let Some(v) = write_order::first_by_name(&names.vers, 64, rest) {
-        after = write_bytes::put(out, after, semicolon);
-        after = put_version(out, after, book, names, kind, c, v);
+        writer.put(semicolon);
+        put_version(writer, book, names, kind, c, v);
         semicolon = b"; ";
         rest = sets::without(rest, v);
     }
-    after
 }
 
 // ---- lines
@@ -90,61 +71,53 @@ fn versions_in(book: &Book, kind: Kind, c: usize) -> u64
 }
 
 // "Every line ends with a line feed."
-fn put_ending(out: &mut [u8], room: Room, book: &Book, names: &Names, kind: Kind, c: usize) -> Room
+fn put_ending(writer: &mut Writer<'_>, book: &Book, names: &Names, kind: Kind, c: usize)
     requires { c < 32 }
-    ensures { Puts (ending_of kind (plain book.now) (tables names.now) c) room result out.old out.new }
+    ensures { Writes (ending_of kind (plain book.now) (tables names.now) c) writer.old writer.new }
 {
-    let a = write_bytes::put(out, room, b"; ");
-    let set = versions_in(book, kind, c);
-    let b = put_versions(out, a, book, names, kind, c, set);
-    write_bytes::put(out, b, b" end\n")
+    writer.put(b"; ");
+    put_versions(writer, book, names, kind, c, versions_in(book, kind, c));
+    writer.put(b" end\n");
 }
 
-fn put_spec_line(out: &mut [u8], room: Room, book: &Book, names: &Names, c: usize) -> Room
+fn put_spec_line(writer: &mut Writer<'_>, book: &Book, names: &Names, c: usize)
     requires { c < 32 }
-    ensures { Puts (line (spec_of (plain book.now) (tables names.now) c)) room result out.old out.new }
+    ensures { Writes (line (spec_of (plain book.now) (tables names.now) c)) writer.old writer.new }
 {
-    let a = write_bytes::put(out, room, b"spec ");
-    let b = write_bytes::put(out, a, write_bytes::name(&names.comps, 32, c));
-    let d = write_bytes::put(out, b, b" provides ");
-    let e = write_version::put_names(out, d, &names.facs, 64, book.provides(c));
-    put_ending(out, e, book, names, Kind::Spec, c)
+    writer.put(b"spec ");
+    writer.put(write_bytes::name(&names.comps, 32, c));
+    writer.put(b" provides ");
+    write_version::put_names(writer, &names.facs, 64, book.provides(c));
+    put_ending(writer, book, names, Kind::Spec, c);
 }
 
-fn put_mod_line(out: &mut [u8], room: Room, book: &Book, names: &Names, c: usize) -> Room
+fn put_mod_line(writer: &mut Writer<'_>, book: &Book, names: &Names, c: usize)
     requires { c < 32 }
-    ensures { Puts (line (mod_of (plain book.now) (tables names.now) c)) room result out.old out.new }
+    ensures { Writes (line (mod_of (plain book.now) (tables names.now) c)) writer.old writer.new }
 {
-    let a = write_bytes::put(out, room, b"mod ");
-    let b = write_bytes::put(out, a, write_bytes::name(&names.comps, 32, c));
-    put_ending(out, b, book, names, Kind::Module, c)
+    writer.put(b"mod ");
+    writer.put(write_bytes::name(&names.comps, 32, c));
+    put_ending(writer, book, names, Kind::Module, c);
 }
 
-fn put_sys_line(out: &mut [u8], room: Room, book: &Book, names: &Names, c: usize) -> Room
+fn put_sys_line(writer: &mut Writer<'_>, book: &Book, names: &Names, c: usize)
     requires { c < 32 }
-    ensures { Puts (line (sys_of (plain book.now) (tables names.now) c)) room result out.old out.new }
+    ensures { Writes (line (sys_of (plain book.now) (tables names.now) c)) writer.old writer.new }
 {
-    let a = write_bytes::put(out, room, b"sys ");
-    let b = write_bytes::put(out, a, write_bytes::name(&names.comps, 32, c));
-    let d = write_bytes::put(out, b, b" use ");
-    let e = write_version::put_names(out, d, &names.comps, 32, book.usable(c));
-    put_ending(out, e, book, names, Kind::System, c)
+    writer.put(b"sys ");
+    writer.put(write_bytes::name(&names.comps, 32, c));
+    writer.put(b" use ");
+    write_version::put_names(writer, &names.comps, 32, book.usable(c));
+    put_ending(writer, book, names, Kind::System, c);
 }
 
-pub fn put_line(
-    out: &mut [u8],
-    room: Room,
-    book: &Book,
-    names: &Names,
-    kind: Kind,
-    c: usize,
-) -> Room
+pub fn put_line(writer: &mut Writer<'_>, book: &Book, names: &Names, kind: Kind, c: usize)
     requires { c < 32 }
-    ensures { Puts (line_of kind (plain book.now) (tables names.now) c) room result out.old out.new }
+    ensures { Writes (line_of kind (plain book.now) (tables names.now) c) writer.old writer.new }
 {
     match kind {
-        Kind::Spec => put_spec_line(out, room, book, names, c),
-        Kind::Module => put_mod_line(out, room, book, names, c),
-        Kind::System => put_sys_line(out, room, book, names, c),
+        Kind::Spec => put_spec_line(writer, book, names, c),
+        Kind::Module => put_mod_line(writer, book, names, c),
+        Kind::System => put_sys_line(writer, book, names, c),
     }
 }

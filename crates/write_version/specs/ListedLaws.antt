@@ -12,9 +12,10 @@ use Rattle.text.specs.Tables.{Table, name_at}
 use Rattle.text.specs.Written.{by_name, parted}
 use Rattle.write_bytes.specs.ByName.{first_by_name, listed}
 use Rattle.write_bytes.specs.ByNameLaws.{fewer, first_below, first_none, first_passes, next_is}
-use Rattle.write_bytes.specs.Room.{Puts}
-use Rattle.write_bytes.specs.RoomLaws.{Partly, partly_as, partly_end, partly_keeps, partly_more, partly_start, puts_as, puts_then}
-use Rattle.write_bytes.specs.declared.Room.{Room}
+use Rattle.write_bytes.specs.RoomLaws.{partly_keeps}
+use Rattle.write_bytes.specs.Writes.{Writes}
+use Rattle.write_bytes.specs.WritesLaws.{WritesPartly, writes_as, writes_then, writing_as, writing_end, writing_more, writing_start}
+use Rattle.write_bytes.specs.declared.writer.Writer.{Writer}
 use Rattle.write_version.specs.Pieces.{led_by, names_led, names_of}
 
 -- the next of some pieces, and those behind it
@@ -29,27 +30,26 @@ led_by_none p [] = refl
 led_by_none p (x ∷ xs) = refl
 
 -- the names of the numbers, where nothing stands before the first
-pub not_led : (names : List ℕ) (n : ℕ) (s : Set) {i j : Room} {a c : List ℕ}
-    → Puts (names_led [] names n s) i j a c → Puts (names_of names n s) i j a c
+pub not_led : (names : List ℕ) (n : ℕ) (s : Set) → names_led [] names n s ≡ names_of names n s
 unfolding names_led names_of listed
-not_led names n s = puts_as (led_by_none (bytes ", ") (map (name_at (table_of n names)) (by_name (table_of n names) n s)))
+not_led names n s = led_by_none (bytes ", ") (map (name_at (table_of n names)) (by_name (table_of n names) n s))
 
 -- the numbers of s are to come of those of s₀; the text before the next is `sep`, before the first of all it was `first`
-pub record Listing (first p : Text) (f : ℕ → Text) (t : Table) (n : ℕ) (s₀ s : Set) (sep : Text) (i j : Room) (a c : List ℕ) : Type 0 where
+pub record Listing (first p : Text) (f : ℕ → Text) (t : Table) (n : ℕ) (s₀ s : Set) (sep : Text) (i j : Writer) : Type 0 where
   pub within : (x : ℕ) → s x ≡ true → s₀ x ≡ true
-  pub part : Partly (led_by first p (map f (by_name t n s₀))) (led_by sep p (map f (by_name t n s))) i j a c
+  pub part : WritesPartly (led_by first p (map f (by_name t n s₀))) (led_by sep p (map f (by_name t n s))) i j
 
 module _ {first p : Text} {f : ℕ → Text} {t : Table} {n : ℕ} where
-  pub listing_start : {s : Set} {i : Room} {a : List ℕ} → Listing first p f t n s s first i i a a
-  listing_start {i = i} {a = a} = record { within = λ x h. h; part = partly_start _ i a }
+  pub listing_start : {s : Set} {i : Writer} → Listing first p f t n s s first i i
+  listing_start {i = i} = record { within = λ x h. h; part = writing_start _ i }
 
-  module _ {s₀ s : Set} {sep : Text} {i j : Room} {a c : List ℕ} (g : Listing first p f t n s₀ s sep i j a c) where
-    pub listing_keeps : length c ≡ length a
-    listing_keeps = partly_keeps g.part
+  module _ {s₀ s : Set} {sep : Text} {i j : Writer} (g : Listing first p f t n s₀ s sep i j) where
+    pub listing_keeps : length j.out.now ≡ length i.out.now
+    listing_keeps = partly_keeps g.part.partly
 
-    pub listing_end : first_by_name t n s ≡ none → Puts (led_by first p (map f (by_name t n s₀))) i j a c
+    pub listing_end : first_by_name t n s ≡ none → Writes (led_by first p (map f (by_name t n s₀))) i j
     unfolding led_by
-    listing_end h = partly_end (partly_as (ap (λ (l : List ℕ). led_by sep p (map f l)) (first_none t n s h)) g.part)
+    listing_end h = writing_end (writing_as (ap (λ (l : List ℕ). led_by sep p (map f l)) (first_none t n s h)) g.part)
 
     module _ {k : ℕ} (e : first_by_name t n s ≡ some k) where
       pub listing_in_lem : s₀ k ≡ true
@@ -66,15 +66,15 @@ module _ {first p : Text} {f : ℕ → Text} {t : Table} {n : ℕ} where
         apart : led_by sep p (map f (by_name t n s)) ≡ (sep ++ f k) ++ led_by p p (map f (by_name t n s'))
         apart = ap (λ (l : List ℕ). led_by sep p (map f l)) (next_is t n k s s' e d) ∙ next_piece sep p (f k) (map f (by_name t n s'))
 
-        pub listing_turn : {q r : Room} {b c' : List ℕ} → Puts sep j q c b → Puts (f k) q r b c' → Listing first p f t n s₀ s' p i r a c'
+        pub listing_turn : {q r : Writer} → Writes sep j q → Writes (f k) q r → Listing first p f t n s₀ s' p i r
         unfolding without
         listing_turn o o' = record {
           within = λ x z. g.within x (and_r _ _ (sym (ap (λ (r : Set). r x) d) ∙ z));
-          part = partly_more (partly_as apart g.part) (puts_then o o');
+          part = writing_more (writing_as apart g.part) (writes_then o o');
         }
 
 -- nothing stands before the first
-pub listed_end : {p : Text} {f : ℕ → Text} {t : Table} {n : ℕ} {s₀ s : Set} {sep : Text} {i j : Room} {a c : List ℕ}
-    → Listing [] p f t n s₀ s sep i j a c → first_by_name t n s ≡ none → Puts (listed p f t n s₀) i j a c
+pub listed_end : {p : Text} {f : ℕ → Text} {t : Table} {n : ℕ} {s₀ s : Set} {sep : Text} {i j : Writer}
+    → Listing [] p f t n s₀ s sep i j → first_by_name t n s ≡ none → Writes (listed p f t n s₀) i j
 unfolding listed
-listed_end {p = p} g h = puts_as (led_by_none p _) (listing_end g h)
+listed_end {p = p} g h = writes_as (led_by_none p _) (listing_end g h)

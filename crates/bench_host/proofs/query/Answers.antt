@@ -19,3 +19,6 @@ returns-then-kind-eq4 c = search (rules, gives_4)
 
 pub returns : goal.returns
 returns c = search (rules, gives_5)
+
+pub returns-in_err-version : goal.returns-in_err-version
+returns-in_err-version c = search (rules, gives_5)

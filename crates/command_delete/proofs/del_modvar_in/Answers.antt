@@ -4,12 +4,13 @@ use Rattle.command_outcome.specs.OutcomeLaws.{refuse, accept}
 use Rattle.command_delete.specs.DeleteLaws.{modvar_out, out_1, out_1v, out_kind, out_10, out_15, out_18, out_0}
 use Rattle.book_rules.specs.TestLaws.{passes-proper, is_yes}
 use Rattle.command_delete.proofs.del_modvar_in.Goals as goal
+use Rattle.command_delete.proofs.del_modvar_in.Goals.{then-c-ge32-via-then-c-ge32, then-c-ge32-via-else-c-ge32+then-v-ge64}
 
 pub returns-then-c-ge32-clause-called : goal.returns-then-c-ge32-clause-called
-returns-then-c-ge32-clause-called c = refuse _ _ _ c.requires 0 (modvar_out _ _ _ ∙ out_1 _ _ _ _ _ c.if-c-ge32.true)
-
-pub returns-then-v-ge64-clause-called : goal.returns-then-v-ge64-clause-called
-returns-then-v-ge64-clause-called c = refuse _ _ _ c.requires 0 (modvar_out _ _ _ ∙ out_1v _ _ _ _ _ (omega (arith, c.if-c-ge32.false)) c.if-v-ge64.true)
+returns-then-c-ge32-clause-called c = elim c.then-c-ge32.branch [
+  | then-c-ge32-via-then-c-ge32 w ↦ refuse _ _ _ c.requires 0 (modvar_out _ _ _ ∙ out_1 _ _ _ _ _ w.if-c-ge32.true)
+  | then-c-ge32-via-else-c-ge32+then-v-ge64 w ↦ refuse _ _ _ c.requires 0 (modvar_out _ _ _ ∙ out_1v _ _ _ _ _ (omega (arith, w.if-c-ge32.false)) w.if-v-ge64.true)
+]
 
 pub returns-then-not-is_module-clause-called : goal.returns-then-not-is_module-clause-called
 returns-then-not-is_module-clause-called c =

@@ -4,12 +4,13 @@ use Rattle.command_outcome.specs.OutcomeLaws.{refuse, accept}
 use Rattle.command_delete.specs.DeleteLaws.{sysvar_out, out_1, out_1v, out_kind, out_10, out_15, out_18, out_0}
 use Rattle.book_rules.specs.TestLaws.{passes-proper, is_yes}
 use Rattle.command_delete.proofs.del_sysvar_in.Goals as goal
+use Rattle.command_delete.proofs.del_sysvar_in.Goals.{then-s-ge32-via-then-s-ge32, then-s-ge32-via-else-s-ge32+then-v-ge64}
 
 pub returns-then-s-ge32-clause-called : goal.returns-then-s-ge32-clause-called
-returns-then-s-ge32-clause-called c = refuse _ _ _ c.requires 0 (sysvar_out _ _ _ ∙ out_1 _ _ _ _ _ c.if-s-ge32.true)
-
-pub returns-then-v-ge64-clause-called : goal.returns-then-v-ge64-clause-called
-returns-then-v-ge64-clause-called c = refuse _ _ _ c.requires 0 (sysvar_out _ _ _ ∙ out_1v _ _ _ _ _ (omega (arith, c.if-s-ge32.false)) c.if-v-ge64.true)
+returns-then-s-ge32-clause-called c = elim c.then-s-ge32.branch [
+  | then-s-ge32-via-then-s-ge32 w ↦ refuse _ _ _ c.requires 0 (sysvar_out _ _ _ ∙ out_1 _ _ _ _ _ w.if-s-ge32.true)
+  | then-s-ge32-via-else-s-ge32+then-v-ge64 w ↦ refuse _ _ _ c.requires 0 (sysvar_out _ _ _ ∙ out_1v _ _ _ _ _ (omega (arith, w.if-s-ge32.false)) w.if-v-ge64.true)
+]
 
 pub returns-then-not-is_system-clause-called : goal.returns-then-not-is_system-clause-called
 returns-then-not-is_system-clause-called c =

@@ -6,14 +6,14 @@ use Rattle.command_questions.specs.Asked.{mod_questions}
 use Rattle.command_questions.specs.AskedLaws.{exactly_no, exactly_yes, mod_asked, none_bits, some_bits}
 use Rattle.sets.specs.TestLaws.{<?_in, and-false, and_in, and-true, not_in}
 use Rattle.command_questions.proofs.mod_answer.Goals as goal
+use Rattle.command_questions.proofs.mod_answer.Goals.{then-c-ge32-via-then-c-ge32, then-c-ge32-via-else-c-ge32+then-g}
 
 pub returns-then-c-ge32 : goal.returns-then-c-ge32
 unfolding mod_questions
-returns-then-c-ge32 c = sym (mod_asked _ _ _ ∙ no_at 1 _ _ (and-false _ _ (too_large _ _ c.if-c-ge32.true)))
-
-pub returns-then-g : goal.returns-then-g
-unfolding mod_questions
-returns-then-g c = sym (mod_asked _ _ _ ∙ no_at 1 _ _ (and-true _ _ (<?_in _ _ (omega (arith, c.if-c-ge32.false))) ∙ not_yes _ c.if-g.true))
+returns-then-c-ge32 c = elim c.then-c-ge32.branch [
+  | then-c-ge32-via-then-c-ge32 w ↦ sym (mod_asked _ _ _ ∙ no_at 1 _ _ (and-false _ _ (too_large _ _ w.if-c-ge32.true)))
+  | then-c-ge32-via-else-c-ge32+then-g w ↦ sym (mod_asked _ _ _ ∙ no_at 1 _ _ (and-true _ _ (<?_in _ _ (omega (arith, w.if-c-ge32.false))) ∙ not_yes _ w.if-g.true))
+]
 
 pub returns-then-g-eq0 : goal.returns-then-g-eq0
 unfolding mod_questions

@@ -6,18 +6,15 @@ use Rattle.command_questions.specs.Asked.{spec_questions}
 use Rattle.command_questions.specs.AskedLaws.{all-free_is, few_bits, many_bits, none_bits, some_bits, spec_asked}
 use Rattle.sets.specs.TestLaws.{<?_in, and-false, and_in, and-true, not_in}
 use Rattle.command_spec_questions.proofs.spec_answer.Goals as goal
+use Rattle.command_spec_questions.proofs.spec_answer.Goals.{then-c-ge32-via-then-c-ge32, then-c-ge32-via-else-c-ge32+then-g, then-c-ge32-via-else-c-ge32+else-g+then-standard-ge64}
 
 pub returns-then-c-ge32 : goal.returns-then-c-ge32
 unfolding spec_questions
-returns-then-c-ge32 c = sym (spec_asked _ _ _ _ _ ∙ no_at 1 _ _ (and-false _ _ (too_large _ _ c.if-c-ge32.true)))
-
-pub returns-then-g : goal.returns-then-g
-unfolding spec_questions
-returns-then-g c = sym (spec_asked _ _ _ _ _ ∙ no_at 1 _ _ (and-true _ _ (<?_in _ _ (omega (arith, c.if-c-ge32.false))) ∙ and-false _ _ (not_yes _ c.if-g.true)))
-
-pub returns-then-standard-ge64 : goal.returns-then-standard-ge64
-unfolding spec_questions
-returns-then-standard-ge64 c = sym (spec_asked _ _ _ _ _ ∙ no_at 1 _ _ (and-true _ _ (<?_in _ _ (omega (arith, c.if-c-ge32.false))) ∙ and-true _ _ (not_in _ c.if-g.false) ∙ too_large _ _ c.if-standard-ge64.true))
+returns-then-c-ge32 c = elim c.then-c-ge32.branch [
+  | then-c-ge32-via-then-c-ge32 w ↦ sym (spec_asked _ _ _ _ _ ∙ no_at 1 _ _ (and-false _ _ (too_large _ _ w.if-c-ge32.true)))
+  | then-c-ge32-via-else-c-ge32+then-g w ↦ sym (spec_asked _ _ _ _ _ ∙ no_at 1 _ _ (and-true _ _ (<?_in _ _ (omega (arith, w.if-c-ge32.false))) ∙ and-false _ _ (not_yes _ w.if-g.true)))
+  | then-c-ge32-via-else-c-ge32+else-g+then-standard-ge64 w ↦ sym (spec_asked _ _ _ _ _ ∙ no_at 1 _ _ (and-true _ _ (<?_in _ _ (omega (arith, w.if-c-ge32.false))) ∙ and-true _ _ (not_in _ w.if-g.false) ∙ too_large _ _ w.if-standard-ge64.true))
+]
 
 pub returns-then-g-eq0 : goal.returns-then-g-eq0
 unfolding spec_questions

@@ -6,18 +6,15 @@ use Rattle.command_lists.specs.Answers.{modvar_answer}
 use Rattle.command_questions.specs.AskedLaws.{provided_free}
 use Rattle.sets.specs.TestLaws.{<?_in, and-false, and_in, and-true, not_in}
 use Rattle.command_version_questions.proofs.modvar_answer.Goals as goal
+use Rattle.command_version_questions.proofs.modvar_answer.Goals.{then-c-ge32-via-then-c-ge32, then-c-ge32-via-else-c-ge32+then-v-ge64, then-c-ge32-via-else-c-ge32+else-v-ge64+then-i-ge256}
 
 pub returns-then-c-ge32 : goal.returns-then-c-ge32
 unfolding modvar_answer
-returns-then-c-ge32 c = sym (no_at 1 _ _ (and-false _ _ (too_large _ _ c.if-c-ge32.true)))
-
-pub returns-then-v-ge64 : goal.returns-then-v-ge64
-unfolding modvar_answer
-returns-then-v-ge64 c = sym (no_at 1 _ _ (and-true _ _ (<?_in _ _ (omega (arith, c.if-c-ge32.false))) ∙ and-false _ _ (too_large _ _ c.if-v-ge64.true)))
-
-pub returns-then-i-ge256 : goal.returns-then-i-ge256
-unfolding modvar_answer
-returns-then-i-ge256 c = sym (no_at 1 _ _ (and-true _ _ (<?_in _ _ (omega (arith, c.if-c-ge32.false))) ∙ and-true _ _ (<?_in _ _ (omega (arith, c.if-v-ge64.false))) ∙ too_large _ _ c.if-i-ge256.true))
+returns-then-c-ge32 c = elim c.then-c-ge32.branch [
+  | then-c-ge32-via-then-c-ge32 w ↦ sym (no_at 1 _ _ (and-false _ _ (too_large _ _ w.if-c-ge32.true)))
+  | then-c-ge32-via-else-c-ge32+then-v-ge64 w ↦ sym (no_at 1 _ _ (and-true _ _ (<?_in _ _ (omega (arith, w.if-c-ge32.false))) ∙ and-false _ _ (too_large _ _ w.if-v-ge64.true)))
+  | then-c-ge32-via-else-c-ge32+else-v-ge64+then-i-ge256 w ↦ sym (no_at 1 _ _ (and-true _ _ (<?_in _ _ (omega (arith, w.if-c-ge32.false))) ∙ and-true _ _ (<?_in _ _ (omega (arith, w.if-v-ge64.false))) ∙ too_large _ _ w.if-i-ge256.true))
+]
 
 pub returns-then-not-is_module : goal.returns-then-not-is_module
 unfolding modvar_answer

@@ -7,18 +7,15 @@ use Rattle.command_questions.specs.Asked.{sysvar_questions}
 use Rattle.command_questions.specs.AskedLaws.{none_low, some_low, sysvar_asked_lem}
 use Rattle.sets.specs.TestLaws.{<?_in, and-false, and_in, and-true, not_in}
 use Rattle.command_version_questions.proofs.sysvar_asked.Goals as goal
+use Rattle.command_version_questions.proofs.sysvar_asked.Goals.{then-c-ge32-via-then-c-ge32, then-c-ge32-via-else-c-ge32+then-v-ge64, then-c-ge32-via-else-c-ge32+else-v-ge64+then-g}
 
 pub returns-then-c-ge32 : goal.returns-then-c-ge32
 unfolding sysvar_questions
-returns-then-c-ge32 c = sym (ap first_no (sysvar_asked_lem _ _ _ _) ∙ no_at 1 _ _ (and-false _ _ (too_large _ _ c.if-c-ge32.true)))
-
-pub returns-then-v-ge64 : goal.returns-then-v-ge64
-unfolding sysvar_questions
-returns-then-v-ge64 c = sym (ap first_no (sysvar_asked_lem _ _ _ _) ∙ no_at 1 _ _ (and-true _ _ (<?_in _ _ (omega (arith, c.if-c-ge32.false))) ∙ and-false _ _ (too_large _ _ c.if-v-ge64.true)))
-
-pub returns-then-g : goal.returns-then-g
-unfolding sysvar_questions
-returns-then-g c = sym (ap first_no (sysvar_asked_lem _ _ _ _) ∙ no_at 1 _ _ (and-true _ _ (<?_in _ _ (omega (arith, c.if-c-ge32.false))) ∙ and-true _ _ (<?_in _ _ (omega (arith, c.if-v-ge64.false))) ∙ not_yes _ c.if-g.true))
+returns-then-c-ge32 c = elim c.then-c-ge32.branch [
+  | then-c-ge32-via-then-c-ge32 w ↦ sym (ap first_no (sysvar_asked_lem _ _ _ _) ∙ no_at 1 _ _ (and-false _ _ (too_large _ _ w.if-c-ge32.true)))
+  | then-c-ge32-via-else-c-ge32+then-v-ge64 w ↦ sym (ap first_no (sysvar_asked_lem _ _ _ _) ∙ no_at 1 _ _ (and-true _ _ (<?_in _ _ (omega (arith, w.if-c-ge32.false))) ∙ and-false _ _ (too_large _ _ w.if-v-ge64.true)))
+  | then-c-ge32-via-else-c-ge32+else-v-ge64+then-g w ↦ sym (ap first_no (sysvar_asked_lem _ _ _ _) ∙ no_at 1 _ _ (and-true _ _ (<?_in _ _ (omega (arith, w.if-c-ge32.false))) ∙ and-true _ _ (<?_in _ _ (omega (arith, w.if-v-ge64.false))) ∙ not_yes _ w.if-g.true))
+]
 
 pub returns-then-below_32-eq0 : goal.returns-then-below_32-eq0
 unfolding sysvar_questions

@@ -1,18 +1,16 @@
-use Rattle.std.specs.Prelude.{not}
-use Rattle.std.proofs.Common.{◌∙◌, sym, ap}
-use Rattle.command_outcome.specs.OutcomeLaws.{refuse_25}
+use Rattle.std.proofs.Common.{rules}
 use Rattle.command_outcome.specs.Calls.{command_of}
 use Rattle.command_lists.specs.Said.{compositions_said}
-use Rattle.book_rules.specs.TestLaws.{is_yes}
-use borrow.Author.Tests.{not-true}
+use Rattle.book_test.specs.TestedLaws.{tested_yes}
+use Rattle.commands.proofs.Tested.{refuse_none}
 use Rattle.commands.proofs.add_sys.Goals as goal
 
-pub returns-then-not-passes : goal.returns-then-not-passes
-returns-then-not-passes c = refuse_25 _ _ _ (sym c.passes.ensures ∙ not-true _ (ap not c.if-not-passes.true))
+pub returns-in_err-tested : goal.returns-in_err-tested
+returns-in_err-tested c = refuse_none _ _ _ c.in_err-tested.field-0.0 _ (search rules) c.in_err-tested.ensures
 
-pub add_sys_in-answer-requires : goal.add_sys_in-answer-requires
-add_sys_in-answer-requires c = is_yes _ c.passes.ensures (ap not c.if-not-passes.false)
+pub add_sys_in-requires : goal.add_sys_in-requires
+add_sys_in-requires c = tested_yes _ _ c.in_ok-tested.ensures
 
 pub returns : goal.returns
 unfolding command_of
-returns c = c.add_sys_in-answer.ensures _ (compositions_said _ _ _ _) c.usable_of-u.ensures c.compositions_of-g.ensures
+returns c = c.add_sys_in.ensures _ (compositions_said _ _ _ _) c.usable_of-u.ensures c.compositions_of-g.ensures

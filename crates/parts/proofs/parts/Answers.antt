@@ -1,12 +1,10 @@
-use Rattle.std.specs.Prelude.{not}
-use Rattle.std.proofs.Common.{◌∙◌, sym, ap}
-use borrow.Author.Tests.{not-true}
-use Rattle.book_rules.specs.TestLaws.{is_yes}
-use Rattle.parts.specs.ListedLaws.{refuse_25}
+use Rattle.std.proofs.Common.{rules}
+use Rattle.book_test.specs.TestedLaws.{was_tested}
+use Rattle.parts.specs.ListedLaws.{untested}
 use Rattle.parts.proofs.parts.Goals as goal
 
-pub returns-then-not-passes : goal.returns-then-not-passes
-returns-then-not-passes c = refuse_25 _ _ _ _ _ (sym c.passes.ensures ∙ not-true _ (ap not c.if-not-passes.true)) c.refused.ensures
+pub returns-in_err-tested : goal.returns-in_err-tested
+returns-in_err-tested c = untested _ _ _ _ _ _ _ _ (search rules) (search rules) (search rules) (search rules)
 
 pub parts_in-requires : goal.parts_in-requires
-parts_in-requires c = is_yes _ c.passes.ensures (ap not c.if-not-passes.false)
+parts_in-requires c = search (rules, was_tested)

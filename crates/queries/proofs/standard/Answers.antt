@@ -1,10 +1,11 @@
 use Rattle.std.proofs.Common.{rules}
-use Rattle.query_replies.specs.RepliedLaws.{refuse_25}
-use Rattle.book_rules.specs.TestLaws.{is_yes}
+use Rattle.model.specs.Queries.{the_version, STANDARD}
+use Rattle.book_test.specs.TestedLaws.{was_tested}
+use Rattle.query_replies.specs.RepliedLaws.{untested}
 use Rattle.queries.proofs.standard.Goals as goal
 
-pub returns-then-not-passes : goal.returns-then-not-passes
-returns-then-not-passes c = search (rules, refuse_25)
+pub returns-in_err-tested : goal.returns-in_err-tested
+returns-in_err-tested c = search (rules, untested the_version c.args.book.now.sets c.args.book.now.numbers (STANDARD c.args.c))
 
 pub standard_in-requires : goal.standard_in-requires
-standard_in-requires c = search (rules, is_yes)
+standard_in-requires c = search (rules, was_tested)

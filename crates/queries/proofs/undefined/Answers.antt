@@ -1,10 +1,10 @@
 use Rattle.std.proofs.Common.{rules}
-use Rattle.query_replies.specs.RepliedLaws.{refuse_25}
-use Rattle.book_rules.specs.TestLaws.{is_yes}
+use Rattle.book_test.specs.TestedLaws.{was_tested}
+use Rattle.query_replies.specs.RepliedLaws.{untested}
 use Rattle.queries.proofs.undefined.Goals as goal
 
-pub returns-then-not-passes : goal.returns-then-not-passes
-returns-then-not-passes c = search (rules, refuse_25)
+pub returns-in_err-tested : goal.returns-in_err-tested
+returns-in_err-tested c = search (rules, untested)
 
 pub undefined_in-requires : goal.undefined_in-requires
-undefined_in-requires c = search (rules, is_yes)
+undefined_in-requires c = search (rules, was_tested)

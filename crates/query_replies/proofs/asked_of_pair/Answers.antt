@@ -5,8 +5,8 @@ use Rattle.query_replies.proofs.asked_of_pair.Goals as goal
 pub returns-then-v-ge64 : goal.returns-then-v-ge64
 returns-then-v-ge64 c = search (rules, pair_1)
 
-pub returns-then-answer-ne0 : goal.returns-then-answer-ne0
-returns-then-answer-ne0 c = search (rules, pair_first)
+pub returns-in_err-asked_of_component : goal.returns-in_err-asked_of_component
+returns-in_err-asked_of_component c = search (rules, pair_first)
 
 pub has_version-requires : goal.has_version-requires
 has_version-requires c = search (rules, component_low)

@@ -6,11 +6,11 @@ use Rattle.book_rules.specs.WalkLaws.{kept_start}
 use lib.ListN.{length-replicate, get_or-replicate}
 use Rattle.query_replies.proofs.needs_in.Goals as goal
 
-pub returns-then-answer-ne0 : goal.returns-then-answer-ne0
-returns-then-answer-ne0 c = search (rules, needs_no)
+pub returns-in_err-asked_of_pair : goal.returns-in_err-asked_of_pair
+returns-in_err-asked_of_pair c = search (rules, needs_no)
 
 pub needs_of-set-requires-clause-c_bound : goal.needs_of-set-requires-clause-c_bound
-needs_of-set-requires-clause-c_bound c = pair_low _ _ _ _ c.asked_of_pair-answer.ensures c.if-answer-ne0.false
+needs_of-set-requires-clause-c_bound c = search (rules, pair_low)
 
 pub needs_of-set-requires-clause-sound : goal.needs_of-set-requires-clause-sound
 needs_of-set-requires-clause-sound c = passes_sound _ _ c.requires
@@ -19,6 +19,4 @@ pub needs_of-set-requires-clause-kept : goal.needs_of-set-requires-clause-kept
 needs_of-set-requires-clause-kept c = kept_start _ _ _ (length-replicate {A = ℕ} 2080 0) (λ d l. get_or-replicate {A = ℕ} 2080 d 0 0 (omega arith))
 
 pub returns : goal.returns
-returns c =
-    needs_yes _ _ _ _ _ c.requires c.asked_of_pair-answer.ensures _ c.if-answer-ne0.false
-    c.needs_of-set.ensures.result_value
+returns c = search (rules, needs_yes)

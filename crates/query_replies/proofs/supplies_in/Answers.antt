@@ -3,8 +3,8 @@ use Rattle.query_replies.specs.RepliedLaws.{component_low}
 use Rattle.query_replies.specs.QueryLaws.{supplies_no, supplies_yes}
 use Rattle.query_replies.proofs.supplies_in.Goals as goal
 
-pub returns-then-answer-ne0 : goal.returns-then-answer-ne0
-returns-then-answer-ne0 c = search (rules, supplies_no)
+pub returns-in_err-asked_of_component : goal.returns-in_err-asked_of_component
+returns-in_err-asked_of_component c = search (rules, supplies_no)
 
 pub provides-requires : goal.provides-requires
 provides-requires c = search (rules, component_low)

@@ -1,25 +1,21 @@
-use Rattle.read_tokens.specs.ProductionLaws.{there_inside}
-use Rattle.read_command.specs.WordLaws.{said_no_name, said_no_point, said_no_version, pair_said}
+use Rattle.std.proofs.Common.{refl}
+use Rattle.read_command.specs.WordLaws.{pair_said, said_no_name, said_no_point, said_no_version}
 use Rattle.read_command.proofs.read_pair.Goals as goal
 
-pub returns-then-not-c : goal.returns-then-not-c
-returns-then-not-c c = λ f. said_no_name _ _ _ _ _ c.read_name-c.ensures c.if-not-c.true f _ _
+pub returns-in_err-component : goal.returns-in_err-component
+returns-in_err-component c = λ f. rw c.from_residual.ensures (said_no_name f c.args.reader.now c.in_err-component.ensures)
 
-pub want_mark-k-requires : goal.want_mark-k-requires
-want_mark-k-requires c = there_inside _ _ _ _ _ _ c.read_name-c.ensures c.if-not-c.false
+pub returns-in_err-mark : goal.returns-in_err-mark
+returns-in_err-mark c =
+    λ f. rw c.from_residual-in_err-mark.ensures
+    (said_no_point f c.args.reader.now c.name.new.self _ c.in_ok-component.ensures c.in_err-mark.ensures)
 
-pub returns-then-not-k : goal.returns-then-not-k
-returns-then-not-k c = λ f. said_no_point _ _ _ _ _ c.read_name-c.ensures c.if-not-c.false _ _ c.want_mark-k.ensures c.if-not-k.true f _ _
-
-pub read_name-v-requires : goal.read_name-v-requires
-read_name-v-requires c = there_inside _ _ _ _ _ _ c.want_mark-k.ensures c.if-not-k.false
-
-pub returns-then-not-v : goal.returns-then-not-v
-returns-then-not-v c =
-    λ f. said_no_version _ _ _ _ _ c.read_name-c.ensures c.if-not-c.false _ _ c.want_mark-k.ensures c.if-not-k.false _ _ _
-    c.read_name-v.ensures c.if-not-v.true f _ _
+pub returns-in_err-version : goal.returns-in_err-version
+returns-in_err-version c =
+    λ f. rw c.from_residual-in_err-version.ensures
+    (said_no_version f c.args.reader.now c.name.new.self _ c.in_ok-component.ensures c.mark.new.self c.in_ok-mark.ensures c.in_err-version.ensures)
 
 pub returns : goal.returns
 returns c =
-    λ f. pair_said _ _ _ _ _ _ _ _ _ _ c.read_name-c.ensures c.if-not-c.false c.want_mark-k.ensures c.if-not-k.false c.read_name-v.ensures
-    c.if-not-v.false f
+    λ f. pair_said f c.args.reader.now c.name.new.self _ c.in_ok-component.ensures c.mark.new.self c.in_ok-mark.ensures c.name-2.new.self
+    (record { component = c.in_ok-component.component; version = c.in_ok-version.version }) refl c.in_ok-version.ensures

@@ -1,28 +1,33 @@
-use Rattle.std.proofs.Common.{rules}
-use Rattle.read_tokens.specs.ListLaws.{leads_start, leads_wrong, leads_inside, leads_last, leads_less, leads_on}
+use Rattle.std.proofs.Common.{◌≡◌, ◌∙◌, ap, arith, length}
+use Rattle.read_tokens.specs.ReaderLaws.{entry_last, entry_less, entry_on, entry_wrong, leads_by}
 use Rattle.text_laws.specs.Takes.{name_takes}
 use Rattle.read_command.proofs.take_all_known.Goals as goal
 
-pub loop-n-init : goal.loop-n-init
-loop-n-init c = search (rules, leads_start)
+pub loop-got-init : goal.loop-got-init
+loop-got-init c = leads_by _ _ _ c.args.reader.now _
 
-pub returns-then-not-n : goal.returns-then-not-n
-returns-then-not-n c = leads_wrong _ _ _ name_takes _ _ _ _ _ _ _ _ c.loop-n.invariant c.take_known-n.ensures _ _ c.if-not-n.true
+pub returns-in_err-got : goal.returns-in_err-got
+returns-in_err-got c =
+    rw c.from_residual.ensures
+    (entry_wrong _ _ _ name_takes c.args.reader.now c.loop-got.reader _ _ c.loop-got.invariant c.in_err-got.ensures)
 
-pub want_mark-m-requires : goal.want_mark-m-requires
-want_mark-m-requires c = leads_inside _ _ _ name_takes _ _ _ _ _ _ _ _ c.loop-n.invariant c.take_known-n.ensures c.if-not-n.false
+pub returns-then-not-passes_mark : goal.returns-then-not-passes_mark
+returns-then-not-passes_mark c =
+    let g = c.in_ok-got.ensures in
+    entry_last _ _ _ name_takes c.args.reader.now c.loop-got.reader _ _ c.loop-got.invariant _ c.take_known.new.reader g.0 g.1
+    c.passes_mark.new.self c.if-not-passes_mark.ensures
 
-pub returns-then-not-m : goal.returns-then-not-m
-returns-then-not-m c =
-    leads_last _ _ _ name_takes _ _ _ _ _ _ _ _ c.loop-n.invariant c.take_known-n.ensures c.if-not-n.false _ _ c.want_mark-m.ensures
-    c.if-not-m.true
+pub loop-got-smaller : goal.loop-got-smaller
+loop-got-smaller c =
+    let g = c.in_ok-got.ensures in
+    let l = entry_less _ _ _ name_takes c.args.reader.now c.loop-got.reader _ _ c.loop-got.invariant _ c.take_known.new.reader g.0 g.1
+    c.passes_mark.new.self c.if-not-passes_mark.ensures in
+    let m = c.if-not-passes_mark.ensures in
+    let same : length c.passes_mark.new.self.text.now ≡ length c.loop-got.reader.text.now = ap (λ t. length t.now) (m.1 ∙ g.1) in
+    omega arith
 
-pub loop-n-smaller : goal.loop-n-smaller
-loop-n-smaller c =
-    let l = leads_less _ _ _ name_takes _ _ _ _ _ _ _ _ c.loop-n.invariant c.take_known-n.ensures c.if-not-n.false _ _ c.want_mark-m.ensures
-    c.if-not-m.false in search rules
-
-pub loop-n-preserved : goal.loop-n-preserved
-loop-n-preserved c =
-    leads_on _ _ _ name_takes _ _ _ _ _ _ _ _ c.loop-n.invariant c.take_known-n.ensures c.if-not-n.false _ _ c.want_mark-m.ensures
-    c.if-not-m.false
+pub loop-got-preserved : goal.loop-got-preserved
+loop-got-preserved c =
+    let g = c.in_ok-got.ensures in
+    entry_on _ _ _ name_takes c.args.reader.now c.loop-got.reader _ _ c.loop-got.invariant _ c.take_known.new.reader g.0 g.1
+    c.passes_mark.new.self c.if-not-passes_mark.ensures

@@ -1,22 +1,17 @@
-use Rattle.std.proofs.Common.{rules}
 use Rattle.read_command.specs.ChoiceLaws.{known_small, known-not, known_at}
-use Rattle.read_tokens.specs.TakeLaws.{no_answer, part_span, name_short}
+use Rattle.read_tokens.specs.TakeLaws.{name_short}
 use Rattle.read_command.proofs.take_known.Goals as goal
 
-pub returns-then-not-w : goal.returns-then-not-w
-returns-then-not-w c = search (rules, no_answer)
-
-pub lookup_part-requires-clause-span : goal.lookup_part-requires-clause-span
-lookup_part-requires-clause-span c = search (rules, part_span)
-
-pub lookup_part-requires-clause-e_value : goal.lookup_part-requires-clause-e_value
-lookup_part-requires-clause-e_value c = search (rules, name_short)
+pub lookup-requires-clause-word_value : goal.lookup-requires-clause-word_value
+lookup-requires-clause-word_value c = name_short _ _ _ _ c.in_ok-word.ensures.0
 
 pub returns-in_default : goal.returns-in_default
-returns-in_default c = search (rules, known-not) fits 20000
+returns-in_default c =
+    (known-not _ _ _ c.lookup.ensures _ _ _ _ _ c.in_ok-word.ensures.0 c.in_default.is, c.in_ok-word.ensures.1)
 
 pub with-requires : goal.with-requires
-with-requires c = search (rules, known_small) fits 20000
+with-requires c = known_small _ _ _ c.lookup.ensures _ c.in-Some.is
 
 pub returns : goal.returns
-returns c = search (rules, known_at) fits 20000
+returns c =
+    (known_at _ _ _ c.lookup.ensures _ _ _ _ _ c.in_ok-word.ensures.0 _ _ c.in-Some.is c.with.ensures, c.in_ok-word.ensures.1)

@@ -9,8 +9,8 @@ returns-then-word-gt32 c = search (rules, form_long)
 pub keyword_of-requires : goal.keyword_of-requires
 keyword_of-requires c = search (rules, short_in)
 
-pub returns-in_default : goal.returns-in_default
-returns-in_default c = search (rules, form_none)
+pub returns-in_err-keyword_of : goal.returns-in_err-keyword_of
+returns-in_err-keyword_of c = search (rules, form_none)
 
 pub returns : goal.returns
 returns c = search (rules, form_found)

@@ -4,4 +4,4 @@ use Rattle.read_mod.proofs.mod_request.Goals as goal
 
 pub returns : goal.returns
 unfolding ◌&◌
-returns c = record { there = refl; end = refl; component = refl; versions = refl; room = refl }
+returns c = record { component = refl; versions = refl; room = refl }

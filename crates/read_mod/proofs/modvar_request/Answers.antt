@@ -4,4 +4,4 @@ use Rattle.read_mod.proofs.modvar_request.Goals as goal
 
 pub returns : goal.returns
 unfolding ◌&◌
-returns c = record { there = refl; end = refl; component = refl; version = refl; required = refl; implementation = refl; room = refl }
+returns c = record { component = refl; version = refl; required = refl; implementation = refl; room = refl }

@@ -1,53 +1,32 @@
-use Rattle.read_tokens.specs.ProductionLaws.{there_inside}
-use Rattle.read_tokens.specs.ModLaws.{mod_version_no_name, mod_version_no_key, mod_version_no_imp, mod_version_taken}
+use Rattle.text.specs.Language.{mod_version}
+use Rattle.read_tokens.specs.ModLaws.{impl_key, mod_stepped}
+use Rattle.read_tokens.specs.SequenceLaws.{before_lacks, behind_lacks, behind_read, first_lacks, give_read, next_lacks, next_read}
+use Rattle.read_tokens.specs.SequenceLaws.{as_named, not_named}
 use Rattle.read_mod.proofs.take_mod_version.Goals as goal
 
-pub returns-then-not-v-clause-kept_3 : goal.returns-then-not-v-clause-kept_3
-returns-then-not-v-clause-kept_3 c = c.take_name-v.ensures.kept_2
+pub returns-in_err-v-clause-answers : goal.returns-in_err-v-clause-answers
+unfolding mod_version
+returns-in_err-v-clause-answers c = rw c.from_residual.ensures (first_lacks _ c.args.reader.now c.in_err-v.ensures.answers _)
 
-pub returns-then-not-v-clause-kept_4 : goal.returns-then-not-v-clause-kept_4
-returns-then-not-v-clause-kept_4 c = c.requires.kept_2
+pub returns-in_err-key-clause-answers : goal.returns-in_err-key-clause-answers
+unfolding mod_version
+returns-in_err-key-clause-answers c =
+    rw c.from_residual-in_err-key.ensures
+    (next_lacks c.args.reader.now c.take_name.new.reader c.in_ok-v.ensures.answers _ (λ v h.
+    before_lacks _ c.take_name.new.reader (not_named impl_key c.take_name.new.reader c.in_err-key.ensures) _))
 
-pub returns-then-not-v-clause-answers : goal.returns-then-not-v-clause-answers
-returns-then-not-v-clause-answers c = mod_version_no_name _ _ _ _ _ c.take_name-v.ensures.answers _ _ c.if-not-v.true
-
-pub want_key-k-requires-clause-at_in_bounds : goal.want_key-k-requires-clause-at_in_bounds
-want_key-k-requires-clause-at_in_bounds c = there_inside _ _ _ _ _ _ c.take_name-v.ensures.answers c.if-not-v.false
-
-pub returns-then-not-k-clause-kept_3 : goal.returns-then-not-k-clause-kept_3
-returns-then-not-k-clause-kept_3 c = c.take_name-v.ensures.kept_2
-
-pub returns-then-not-k-clause-kept_4 : goal.returns-then-not-k-clause-kept_4
-returns-then-not-k-clause-kept_4 c = c.requires.kept_2
-
-pub returns-then-not-k-clause-answers : goal.returns-then-not-k-clause-answers
-returns-then-not-k-clause-answers c =
-    mod_version_no_key _ _ _ _ _ c.take_name-v.ensures.answers _ c.if-not-v.false _ _ c.want_key-k.ensures _ c.if-not-k.true
-
-pub take_imp-i-requires-clause-kept : goal.take_imp-i-requires-clause-kept
-take_imp-i-requires-clause-kept c = c.requires.kept_2
-
-pub take_imp-i-requires-clause-at_in_bounds : goal.take_imp-i-requires-clause-at_in_bounds
-take_imp-i-requires-clause-at_in_bounds c = there_inside _ _ _ _ _ _ c.want_key-k.ensures c.if-not-k.false
-
-pub returns-then-not-i-clause-kept_3 : goal.returns-then-not-i-clause-kept_3
-returns-then-not-i-clause-kept_3 c = c.take_name-v.ensures.kept_2
-
-pub returns-then-not-i-clause-kept_4 : goal.returns-then-not-i-clause-kept_4
-returns-then-not-i-clause-kept_4 c = c.take_imp-i.ensures.kept_2
-
-pub returns-then-not-i-clause-answers : goal.returns-then-not-i-clause-answers
-returns-then-not-i-clause-answers c =
-    mod_version_no_imp _ _ _ _ _ c.take_name-v.ensures.answers _ c.if-not-v.false _ _ c.want_key-k.ensures c.if-not-k.false _ _ _
-    c.take_imp-i.ensures.answers _ c.if-not-i.true
-
-pub returns-clause-kept_3 : goal.returns-clause-kept_3
-returns-clause-kept_3 c = c.take_name-v.ensures.kept_2
-
-pub returns-clause-kept_4 : goal.returns-clause-kept_4
-returns-clause-kept_4 c = c.take_imp-i.ensures.kept_2
+pub returns-in_err-i-clause-answers : goal.returns-in_err-i-clause-answers
+unfolding mod_version
+returns-in_err-i-clause-answers c =
+    rw c.from_residual-in_err-i.ensures
+    (next_lacks c.args.reader.now c.take_name.new.reader c.in_ok-v.ensures.answers _ (λ v h.
+    behind_lacks c.take_name.new.reader c.key.new.self (as_named impl_key c.take_name.new.reader c.key.new.self c.in_ok-key.ensures) _
+    (first_lacks _ c.key.new.self c.in_err-i.ensures.answers _)))
 
 pub returns-clause-answers : goal.returns-clause-answers
+unfolding mod_version
 returns-clause-answers c =
-    mod_version_taken _ _ _ _ _ _ _ _ _ _ _ _ _ _ _ _ _ _ c.take_name-v.ensures.answers c.if-not-v.false c.want_key-k.ensures
-    c.if-not-k.false c.take_imp-i.ensures.answers c.if-not-i.false c.with_mod_version.ensures
+    next_read c.args.reader.now c.take_name.new.reader c.in_ok-v.ensures.answers _ c.take_imp.new.reader (λ v e.
+    behind_read c.take_name.new.reader c.key.new.self (as_named impl_key c.take_name.new.reader c.key.new.self c.in_ok-key.ensures) _
+    c.take_imp.new.reader (next_read c.key.new.self c.take_imp.new.reader c.in_ok-i.ensures.answers _ c.take_imp.new.reader (λ i f.
+    give_read _ c.take_imp.new.reader (mod_stepped _ _ _ _ _ _ e f c.with_mod_version.ensures))))

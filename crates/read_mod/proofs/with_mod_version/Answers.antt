@@ -4,4 +4,4 @@ use Rattle.read_mod.proofs.with_mod_version.Goals as goal
 
 pub returns : goal.returns
 unfolding ◌&◌
-returns c = record { there = refl; end = refl; numbers = c.with_number.ensures; vers = refl; impls = refl }
+returns c = record { numbers = c.with_number.ensures; vers = refl; impls = refl }

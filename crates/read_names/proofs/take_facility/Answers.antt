@@ -1,12 +1,10 @@
-use Rattle.std.proofs.Common.{rules}
-use Rattle.read_tokens.specs.TakeLaws.{no_answer, taken_small, facility_taken}
+use Rattle.std.proofs.Common.{arith}
+use Rattle.read_tokens.specs.TakeLaws.{facility_taken, taken_small}
 use Rattle.read_names.proofs.take_facility.Goals as goal
 
-pub returns-then-not-n-clause-answers : goal.returns-then-not-n-clause-answers
-returns-then-not-n-clause-answers c = search (rules, no_answer)
-
 pub with-requires : goal.with-requires
-with-requires c = search (rules, taken_small)
+with-requires c = taken_small _ _ _ _ _ _ _ _ _ c.in_ok-taken.ensures.answers.0 (omega arith)
 
 pub returns-clause-answers : goal.returns-clause-answers
-returns-clause-answers c = search (rules, facility_taken)
+returns-clause-answers c =
+    (facility_taken _ _ _ _ _ _ _ _ _ _ c.in_ok-taken.ensures.answers.0 c.with.ensures, c.in_ok-taken.ensures.answers.1)

@@ -1,18 +1,8 @@
-use Rattle.std.proofs.Common.{arith, rules}
-use Rattle.read_tokens.specs.TakeLaws.{no_answer, part_span, part_taken, part_read, imp_short}
+use Rattle.read_tokens.specs.TakeLaws.{imp_short, word_took}
 use Rattle.read_names.proofs.take_imp.Goals as goal
 
-pub returns-then-not-w-clause-answers : goal.returns-then-not-w-clause-answers
-returns-then-not-w-clause-answers c = search (rules, no_answer)
-
-pub enter_part-n-requires-clause-span : goal.enter_part-n-requires-clause-span
-enter_part-n-requires-clause-span c = search (rules, part_span)
-
-pub enter_part-n-requires-clause-e_value : goal.enter_part-n-requires-clause-e_value
-enter_part-n-requires-clause-e_value c = search (rules, imp_short)
-
-pub overflow_add-result : goal.overflow_add-result
-overflow_add-result c = let h = part_read _ _ _ _ _ _ _ c.read_imp-w.ensures c.if-not-w.false in omega arith
+pub enter_word-requires-clause-word_value : goal.enter_word-requires-clause-word_value
+enter_word-requires-clause-word_value c = imp_short _ _ _ _ c.in_ok-word.ensures.0
 
 pub returns-clause-answers : goal.returns-clause-answers
-returns-clause-answers c = search (rules, part_taken)
+returns-clause-answers c = (word_took _ _ _ _ _ c.in_ok-word.ensures.0 _ c.enter_word.ensures.enters, c.in_ok-word.ensures.1)

@@ -1,15 +1,21 @@
-use Rattle.std.proofs.Common.{rules}
-use Rattle.read_tokens.specs.ProductionLaws.{up_to_absent, up_to_wrong, up_to_is, there_inside}
+use Rattle.read_tokens.specs.ProductionLaws.{up_to_absent, up_to_is, up_to_open, up_to_wrong}
 use Rattle.read_names.proofs.take_provided.Goals as goal
 
-pub returns-then-k-clause-answers : goal.returns-then-k-clause-answers
-returns-then-k-clause-answers c = search (rules, up_to_absent)
+pub returns-then-passes_mark-clause-answers : goal.returns-then-passes_mark-clause-answers
+returns-then-passes_mark-clause-answers c = up_to_absent _ c.args.reader.now c.passes_mark.new.self _ _ c.if-passes_mark.ensures
 
-pub returns-then-not-n-clause-answers : goal.returns-then-not-n-clause-answers
-returns-then-not-n-clause-answers c = search (rules, up_to_wrong)
+pub returns-in_err-provided-clause-answers : goal.returns-in_err-provided-clause-answers
+returns-in_err-provided-clause-answers c =
+    rw c.from_residual.ensures
+    (up_to_wrong _ c.args.reader.now c.passes_mark.new.self c.if-passes_mark.ensures c.in_err-provided.ensures.answers)
 
-pub want_mark-m-requires : goal.want_mark-m-requires
-want_mark-m-requires c = search (rules, there_inside)
+pub returns-in_err-mark-clause-answers : goal.returns-in_err-mark-clause-answers
+returns-in_err-mark-clause-answers c =
+    rw c.from_residual-in_err-mark.ensures
+    (up_to_open _ c.args.reader.now c.passes_mark.new.self c.if-passes_mark.ensures _ c.take_facilities.new.reader
+    c.in_ok-provided.ensures.answers c.in_err-mark.ensures)
 
 pub returns-clause-answers : goal.returns-clause-answers
-returns-clause-answers c = search (rules, up_to_is)
+returns-clause-answers c =
+    up_to_is _ c.args.reader.now c.passes_mark.new.self c.if-passes_mark.ensures _ c.take_facilities.new.reader
+    c.in_ok-provided.ensures.answers c.mark.new.self c.in_ok-mark.ensures

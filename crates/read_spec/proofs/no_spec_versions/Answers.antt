@@ -1,4 +1,4 @@
-use Rattle.read_tokens.specs.ProductionLaws.{spec_start_lem}
+use Rattle.read_spec.specs.SpecLaws.{spec_start_lem}
 use Rattle.read_spec.proofs.no_spec_versions.Goals as goal
 
 pub returns : goal.returns

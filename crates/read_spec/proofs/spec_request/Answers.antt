@@ -4,4 +4,4 @@ use Rattle.read_spec.proofs.spec_request.Goals as goal
 
 pub returns : goal.returns
 unfolding ◌&◌
-returns c = record { there = refl; end = refl; component = refl; set = refl; versions = refl; standard = refl; room = refl }
+returns c = record { component = refl; set = refl; versions = refl; standard = refl; room = refl }

@@ -1,27 +1,34 @@
-use Rattle.read_tokens.specs.ProductionLaws.{there_inside}
-use Rattle.read_spec.specs.SpecLaws.{spec_body_stops, spec_body_taken}
+use Rattle.sets.specs.Tests.{◌&◌, ~◌}
+use Rattle.read_tokens.specs.Asked.{spec_body}
+use Rattle.read_tokens.specs.ModLaws.{end_key}
+use Rattle.read_tokens.specs.SequenceLaws.{before_lacks, behind_lacks, behind_read, first_lacks, give_read, next_lacks, next_read}
+use Rattle.read_tokens.specs.SequenceLaws.{as_named, not_named}
+use Rattle.read_spec.specs.SpecLaws.{none_standard, one_standard}
 use Rattle.read_spec.proofs.take_spec_body.Goals as goal
 
-pub returns-then-not-v-clause-kept_3 : goal.returns-then-not-v-clause-kept_3
-returns-then-not-v-clause-kept_3 c = c.take_spec_versions-v.ensures.kept_3
+pub returns-in_err-v-clause-answers : goal.returns-in_err-v-clause-answers
+unfolding spec_body
+returns-in_err-v-clause-answers c = rw c.from_residual.ensures (first_lacks _ c.args.reader.now c.in_err-v.ensures.answers _)
 
-pub returns-then-not-v-clause-kept_4 : goal.returns-then-not-v-clause-kept_4
-returns-then-not-v-clause-kept_4 c = c.take_spec_versions-v.ensures.kept_4
+pub returns-in_err-key-clause-answers : goal.returns-in_err-key-clause-answers
+unfolding spec_body
+returns-in_err-key-clause-answers c =
+    rw c.from_residual-in_err-key.ensures
+    (next_lacks c.args.reader.now c.take_spec_versions.new.reader c.in_ok-v.ensures.answers _ (λ vs h.
+    before_lacks _ c.take_spec_versions.new.reader (not_named end_key c.take_spec_versions.new.reader c.in_err-key.ensures) _))
 
-pub returns-then-not-v-clause-answers : goal.returns-then-not-v-clause-answers
-returns-then-not-v-clause-answers c =
-    spec_body_stops _ _ _ _ _ _ _ _ _ _ _ c.no_spec_versions.ensures c.take_spec_versions-v.ensures.answers _ _ c.if-not-v.true
+pub returns-else-v-clause-answers : goal.returns-else-v-clause-answers
+unfolding spec_body ◌&◌ ~◌
+returns-else-v-clause-answers c =
+    let z = c.key.new.self in
+    next_lacks c.args.reader.now c.take_spec_versions.new.reader c.in_ok-v.ensures.answers _ (λ vs h.
+    behind_lacks c.take_spec_versions.new.reader z (as_named end_key c.take_spec_versions.new.reader z c.in_ok-key.ensures) _
+    (first_lacks _ z (none_standard _ _ _ _ _ _ _ _ c.no_spec_versions.ensures h c.if-v.false z) _))
 
-pub want_key-requires-clause-at_in_bounds : goal.want_key-requires-clause-at_in_bounds
-want_key-requires-clause-at_in_bounds c = there_inside _ _ _ _ _ _ c.take_spec_versions-v.ensures.answers c.if-not-v.false
-
-pub returns-clause-kept_3 : goal.returns-clause-kept_3
-returns-clause-kept_3 c = c.take_spec_versions-v.ensures.kept_3
-
-pub returns-clause-kept_4 : goal.returns-clause-kept_4
-returns-clause-kept_4 c = c.take_spec_versions-v.ensures.kept_4
-
-pub returns-clause-answers : goal.returns-clause-answers
-returns-clause-answers c =
-    spec_body_taken _ _ _ _ _ _ _ _ _ _ _ c.no_spec_versions.ensures c.take_spec_versions-v.ensures.answers _ _ _ c.if-not-v.false
-    c.want_key.ensures c.ended.ensures
+pub returns-then-v-clause-answers : goal.returns-then-v-clause-answers
+unfolding spec_body ◌&◌ ~◌
+returns-then-v-clause-answers c =
+    let z = c.key.new.self in
+    next_read c.args.reader.now c.take_spec_versions.new.reader c.in_ok-v.ensures.answers _ z (λ vs h.
+    behind_read c.take_spec_versions.new.reader z (as_named end_key c.take_spec_versions.new.reader z c.in_ok-key.ensures) _ z
+    (next_read z z (one_standard _ _ _ _ _ _ _ _ c.no_spec_versions.ensures h c.if-v.true z) _ z (λ w g. give_read _ z g)))

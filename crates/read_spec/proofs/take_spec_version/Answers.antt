@@ -1,30 +1,31 @@
-use Rattle.std.proofs.Common.{rules}
-use Rattle.read_tokens.specs.ProductionLaws.{spec_version_no_name, spec_version_no_requirements, spec_version_taken, there_inside}
+use Rattle.text.specs.Language.{spec_version}
+use Rattle.read_tokens.specs.SequenceLaws.{as_ahead, first_lacks, give_read, next_lacks, next_read}
+use Rattle.read_spec.specs.SpecLaws.{spec_stepped, std_key}
 use Rattle.read_spec.proofs.take_spec_version.Goals as goal
 
-pub returns-then-not-v-clause-kept_3 : goal.returns-then-not-v-clause-kept_3
-returns-then-not-v-clause-kept_3 c = c.take_name-v.ensures.kept_2
+pub returns-in_err-v-clause-answers : goal.returns-in_err-v-clause-answers
+unfolding spec_version
+returns-in_err-v-clause-answers c =
+    let std = as_ahead std_key c.args.reader.now c.passes_key-std.new.self c.passes_key-std.ensures in
+    rw c.from_residual.ensures
+    (next_lacks c.args.reader.now c.passes_key-std.new.self std _ (λ x h.
+    first_lacks _ c.passes_key-std.new.self c.in_err-v.ensures.answers _))
 
-pub returns-then-not-v-clause-answers : goal.returns-then-not-v-clause-answers
-returns-then-not-v-clause-answers c = search (rules, spec_version_no_name)
-
-pub take_requirements-q-requires-clause-at_in_bounds : goal.take_requirements-q-requires-clause-at_in_bounds
-take_requirements-q-requires-clause-at_in_bounds c = search (rules, there_inside)
-
-pub returns-then-not-q-clause-kept_3 : goal.returns-then-not-q-clause-kept_3
-returns-then-not-q-clause-kept_3 c = c.take_name-v.ensures.kept_2
-
-pub returns-then-not-q-clause-kept_4 : goal.returns-then-not-q-clause-kept_4
-returns-then-not-q-clause-kept_4 c = c.take_requirements-q.ensures.kept_2
-
-pub returns-then-not-q-clause-answers : goal.returns-then-not-q-clause-answers
-returns-then-not-q-clause-answers c = search (rules, spec_version_no_requirements)
-
-pub returns-clause-kept_3 : goal.returns-clause-kept_3
-returns-clause-kept_3 c = c.take_name-v.ensures.kept_2
-
-pub returns-clause-kept_4 : goal.returns-clause-kept_4
-returns-clause-kept_4 c = c.take_requirements-q.ensures.kept_2
+pub returns-in_err-q-clause-answers : goal.returns-in_err-q-clause-answers
+unfolding spec_version
+returns-in_err-q-clause-answers c =
+    let std = as_ahead std_key c.args.reader.now c.passes_key-std.new.self c.passes_key-std.ensures in
+    rw c.from_residual-in_err-q.ensures
+    (next_lacks c.args.reader.now c.passes_key-std.new.self std _ (λ x h.
+    next_lacks c.passes_key-std.new.self c.take_name.new.reader c.in_ok-v.ensures.answers _ (λ v h.
+    first_lacks _ c.take_name.new.reader c.in_err-q.ensures.answers _)))
 
 pub returns-clause-answers : goal.returns-clause-answers
-returns-clause-answers c = search (rules, spec_version_taken) fits 20000
+unfolding spec_version
+returns-clause-answers c =
+    let std = as_ahead std_key c.args.reader.now c.passes_key-std.new.self c.passes_key-std.ensures in
+    let z = c.take_requirements.new.reader in
+    next_read c.args.reader.now c.passes_key-std.new.self std _ z (λ x d.
+    next_read c.passes_key-std.new.self c.take_name.new.reader c.in_ok-v.ensures.answers _ z (λ v e.
+    next_read c.take_name.new.reader z c.in_ok-q.ensures.answers _ z (λ rs f.
+    give_read _ z (spec_stepped _ _ _ _ _ _ d e f c.with_spec_version.ensures))))

@@ -1,49 +1,33 @@
-use Rattle.std.proofs.Common.{rules}
-use Rattle.read_tokens.specs.TakeLaws.{kept_same}
+use Rattle.std.proofs.Common.{◌≡◌, ◌∙◌, ap, arith, length}
 use Rattle.text_laws.specs.Takes.{spec_version_takes}
-use Rattle.read_tokens.specs.ListLaws.{leads_start, leads_wrong, leads_inside, leads_last, leads_less, leads_on}
+use Rattle.read_tokens.specs.ReaderLaws.{entry_last, entry_less, entry_on, entry_wrong}
 use Rattle.read_spec.proofs.take_spec_versions.Goals as goal
 
-pub loop-n-init : goal.loop-n-init
-loop-n-init c = (search (rules, leads_start), search rules, search rules)
+pub returns-in_err-g-clause-answers : goal.returns-in_err-g-clause-answers
+returns-in_err-g-clause-answers c =
+    rw c.from_residual.ensures
+    (entry_wrong _ _ _ spec_version_takes c.args.reader.now c.loop-g.reader _ _ c.loop-g.invariant.0 c.in_err-g.ensures.answers)
 
-pub returns-then-not-n-clause-kept_3 : goal.returns-then-not-n-clause-kept_3
-returns-then-not-n-clause-kept_3 c = c.take_spec_version-n.ensures.kept_3
+pub returns-then-not-passes_mark-clause-answers : goal.returns-then-not-passes_mark-clause-answers
+returns-then-not-passes_mark-clause-answers c =
+    let g = c.in_ok-g.ensures.answers in
+    entry_last _ _ _ spec_version_takes c.args.reader.now c.loop-g.reader _ _ c.loop-g.invariant.0 _ c.take_spec_version.new.reader g.0 g.1
+    c.passes_mark.new.self c.if-not-passes_mark.ensures
 
-pub returns-then-not-n-clause-kept_4 : goal.returns-then-not-n-clause-kept_4
-returns-then-not-n-clause-kept_4 c = c.take_spec_version-n.ensures.kept_4
+pub loop-g-smaller : goal.loop-g-smaller
+loop-g-smaller c =
+    let g = c.in_ok-g.ensures.answers in
+    let m = c.if-not-passes_mark.ensures in
+    let l = entry_less _ _ _ spec_version_takes c.args.reader.now c.loop-g.reader _ _ c.loop-g.invariant.0 _ c.take_spec_version.new.reader g.0 g.1
+    c.passes_mark.new.self m in
+    let same : length c.passes_mark.new.self.text.now ≡ length c.loop-g.reader.text.now = ap (λ t. length t.now) (m.1 ∙ g.1) in
+    omega arith
 
-pub returns-then-not-n-clause-answers : goal.returns-then-not-n-clause-answers
-returns-then-not-n-clause-answers c =
-    leads_wrong _ _ _ spec_version_takes _ _ _ _ _ _ _ _ c.loop-n.invariant.0 c.take_spec_version-n.ensures.answers _ _ c.if-not-n.true
-
-pub want_mark-m-requires : goal.want_mark-m-requires
-want_mark-m-requires c =
-    leads_inside _ _ _ spec_version_takes _ _ _ _ _ _ _ _ c.loop-n.invariant.0 c.take_spec_version-n.ensures.answers c.if-not-n.false
-
-pub shape_of-facs-then-not-m : goal.shape_of-facs-then-not-m
-shape_of-facs-then-not-m c = kept_same _ _ _ c.take_spec_version-n.ensures.kept_4 c.requires.kept_2
-
-pub returns-then-not-m-clause-kept_3 : goal.returns-then-not-m-clause-kept_3
-returns-then-not-m-clause-kept_3 c = c.take_spec_version-n.ensures.kept_3
-
-pub returns-then-not-m-clause-kept_4 : goal.returns-then-not-m-clause-kept_4
-returns-then-not-m-clause-kept_4 c = c.take_spec_version-n.ensures.kept_4
-
-pub returns-then-not-m-clause-answers : goal.returns-then-not-m-clause-answers
-returns-then-not-m-clause-answers c =
-    leads_last _ _ _ spec_version_takes _ _ _ _ _ _ _ _ c.loop-n.invariant.0 c.take_spec_version-n.ensures.answers c.if-not-n.false _ _
-    c.want_mark-m.ensures c.if-not-m.true
-
-pub loop-n-smaller : goal.loop-n-smaller
-loop-n-smaller c =
-    let l = leads_less _ _ _ spec_version_takes _ _ _ _ _ _ _ _ c.loop-n.invariant.0 c.take_spec_version-n.ensures.answers c.if-not-n.false
-    _ _ c.want_mark-m.ensures c.if-not-m.false in search rules
-
-pub loop-n-preserved : goal.loop-n-preserved
-loop-n-preserved c = (
-  leads_on _ _ _ spec_version_takes _ _ _ _ _ _ _ _ c.loop-n.invariant.0 c.take_spec_version-n.ensures.answers c.if-not-n.false _ _
-      c.want_mark-m.ensures c.if-not-m.false,
-  c.take_spec_version-n.ensures.kept_3,
-  c.take_spec_version-n.ensures.kept_4,
-)
+pub loop-g-preserved : goal.loop-g-preserved
+loop-g-preserved c =
+    let g = c.in_ok-g.ensures.answers in (
+      entry_on _ _ _ spec_version_takes c.args.reader.now c.loop-g.reader _ _ c.loop-g.invariant.0 _ c.take_spec_version.new.reader g.0 g.1
+          c.passes_mark.new.self c.if-not-passes_mark.ensures,
+      c.in_ok-g.ensures.kept_3,
+      c.in_ok-g.ensures.kept_4,
+    )

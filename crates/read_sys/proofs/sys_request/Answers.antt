@@ -4,4 +4,4 @@ use Rattle.read_sys.proofs.sys_request.Goals as goal
 
 pub returns : goal.returns
 unfolding ◌&◌
-returns c = record { there = refl; end = refl; component = refl; usable = refl; versions = refl; room = refl }
+returns c = record { component = refl; usable = refl; versions = refl; room = refl }

@@ -4,4 +4,4 @@ use Rattle.read_sys.proofs.sysvar_request.Goals as goal
 
 pub returns : goal.returns
 unfolding ◌&◌
-returns c = record { there = refl; end = refl; component = refl; version = refl; composition = refl; room = refl }
+returns c = record { component = refl; version = refl; composition = refl; room = refl }

@@ -1,57 +1,30 @@
 use Rattle.std.proofs.Common.{rules}
 use Rattle.text_laws.specs.Takes.{compo_takes}
-use Rattle.read_tokens.specs.ListLaws.{leads_start, leads_wrong, leads_inside, leads_last, leads_less, leads_on}
-use Rattle.read_tokens.specs.TakeLaws.{kept_same}
+use Rattle.read_tokens.specs.ReaderLaws.{entry_wrong, entry_last, entry_less, entry_on}
 use Rattle.read_sys.proofs.take_members.Goals as goal
 
-pub loop-n-init : goal.loop-n-init
-loop-n-init c = (search (rules, leads_start), search rules, search rules)
+pub returns-in_err-g-clause-answers : goal.returns-in_err-g-clause-answers
+returns-in_err-g-clause-answers c =
+    rw c.from_residual.ensures (
+    entry_wrong _ _ _ compo_takes c.args.reader.now c.loop-g.reader _ _ c.loop-g.invariant.0 c.in_err-g.ensures.answers)
 
-pub shape_of-comps-then-not-n : goal.shape_of-comps-then-not-n
-shape_of-comps-then-not-n c = kept_same _ _ _ c.take_member-n.ensures.kept_3 c.requires.kept
+pub returns-then-not-passes_mark-clause-answers : goal.returns-then-not-passes_mark-clause-answers
+returns-then-not-passes_mark-clause-answers c =
+    let n = c.in_ok-g.ensures.answers in
+    entry_last _ _ _ compo_takes c.args.reader.now c.loop-g.reader _ _ c.loop-g.invariant.0 _ c.take_member.new.reader n.0 n.1
+    c.passes_mark.new.self (rw c.if-not-passes_mark.true at c.passes_mark.ensures)
 
-pub shape_of-vers-then-not-n : goal.shape_of-vers-then-not-n
-shape_of-vers-then-not-n c = kept_same _ _ _ c.take_member-n.ensures.kept_4 c.requires.kept_2
+pub loop-g-smaller : goal.loop-g-smaller
+loop-g-smaller c =
+    let n = c.in_ok-g.ensures.answers in
+    let l = entry_less _ _ _ compo_takes c.args.reader.now c.loop-g.reader _ _ c.loop-g.invariant.0 _ c.take_member.new.reader n.0 n.1
+    c.passes_mark.new.self (rw c.if-not-passes_mark.false at c.passes_mark.ensures) in search rules
 
-pub returns-then-not-n-clause-kept_3 : goal.returns-then-not-n-clause-kept_3
-returns-then-not-n-clause-kept_3 c = c.take_member-n.ensures.kept_3
-
-pub returns-then-not-n-clause-kept_4 : goal.returns-then-not-n-clause-kept_4
-returns-then-not-n-clause-kept_4 c = c.take_member-n.ensures.kept_4
-
-pub returns-then-not-n-clause-answers : goal.returns-then-not-n-clause-answers
-returns-then-not-n-clause-answers c =
-    leads_wrong _ _ _ compo_takes _ _ _ _ _ _ _ _ c.loop-n.invariant.0 c.take_member-n.ensures.answers _ _ c.if-not-n.true
-
-pub want_mark-m-requires : goal.want_mark-m-requires
-want_mark-m-requires c = leads_inside _ _ _ compo_takes _ _ _ _ _ _ _ _ c.loop-n.invariant.0 c.take_member-n.ensures.answers c.if-not-n.false
-
-pub shape_of-comps-then-not-m : goal.shape_of-comps-then-not-m
-shape_of-comps-then-not-m c = kept_same _ _ _ c.take_member-n.ensures.kept_3 c.requires.kept
-
-pub shape_of-vers-then-not-m : goal.shape_of-vers-then-not-m
-shape_of-vers-then-not-m c = kept_same _ _ _ c.take_member-n.ensures.kept_4 c.requires.kept_2
-
-pub returns-then-not-m-clause-kept_3 : goal.returns-then-not-m-clause-kept_3
-returns-then-not-m-clause-kept_3 c = c.take_member-n.ensures.kept_3
-
-pub returns-then-not-m-clause-kept_4 : goal.returns-then-not-m-clause-kept_4
-returns-then-not-m-clause-kept_4 c = c.take_member-n.ensures.kept_4
-
-pub returns-then-not-m-clause-answers : goal.returns-then-not-m-clause-answers
-returns-then-not-m-clause-answers c =
-    leads_last _ _ _ compo_takes _ _ _ _ _ _ _ _ c.loop-n.invariant.0 c.take_member-n.ensures.answers c.if-not-n.false _ _
-    c.want_mark-m.ensures c.if-not-m.true
-
-pub loop-n-smaller : goal.loop-n-smaller
-loop-n-smaller c =
-    let l = leads_less _ _ _ compo_takes _ _ _ _ _ _ _ _ c.loop-n.invariant.0 c.take_member-n.ensures.answers c.if-not-n.false _ _
-    c.want_mark-m.ensures c.if-not-m.false in search rules
-
-pub loop-n-preserved : goal.loop-n-preserved
-loop-n-preserved c = (
-  leads_on _ _ _ compo_takes _ _ _ _ _ _ _ _ c.loop-n.invariant.0 c.take_member-n.ensures.answers c.if-not-n.false _ _
-      c.want_mark-m.ensures c.if-not-m.false,
-  c.take_member-n.ensures.kept_3,
-  c.take_member-n.ensures.kept_4,
+pub loop-g-preserved : goal.loop-g-preserved
+loop-g-preserved c = (
+  (let n = c.in_ok-g.ensures.answers in
+      entry_on _ _ _ compo_takes c.args.reader.now c.loop-g.reader _ _ c.loop-g.invariant.0 _ c.take_member.new.reader n.0 n.1
+      c.passes_mark.new.self (rw c.if-not-passes_mark.false at c.passes_mark.ensures)),
+  search rules,
+  search rules,
 )

@@ -1,15 +1,10 @@
 use Rattle.read_sys.specs.SysLaws.{usable_taken}
-use Rattle.read_tokens.specs.TakeLaws.{no_answer}
 use Rattle.read_sys.proofs.take_usable.Goals as goal
 
-pub returns-then-not-c-clause-kept_2 : goal.returns-then-not-c-clause-kept_2
-returns-then-not-c-clause-kept_2 c = c.take_name-c.ensures.kept_2
-
-pub returns-then-not-c-clause-answers : goal.returns-then-not-c-clause-answers
-returns-then-not-c-clause-answers c = no_answer _ _ _ _ _ _ _ _ c.take_name-c.ensures.answers c.if-not-c.true
-
-pub returns-clause-kept_2 : goal.returns-clause-kept_2
-returns-clause-kept_2 c = c.take_name-c.ensures.kept_2
+pub returns-in_err-c-clause-answers : goal.returns-in_err-c-clause-answers
+returns-in_err-c-clause-answers c = rw c.from_residual.ensures c.in_err-c.ensures.answers
 
 pub returns-clause-answers : goal.returns-clause-answers
-returns-clause-answers c = usable_taken _ _ _ _ _ _ _ _ _ _ _ c.take_name-c.ensures.answers c.if-not-c.false c.with_usable.ensures
+returns-clause-answers c =
+    let n = c.in_ok-c.ensures.answers in
+    (usable_taken _ _ _ _ _ _ _ _ _ _ n.0 c.with_usable.ensures, n.1)

@@ -4,4 +4,4 @@ use Rattle.read_sys.proofs.with_named_member.Goals as goal
 
 pub returns : goal.returns
 unfolding ◌&◌
-returns c = record { there = refl; end = refl; members = c.with_member.ensures; comps = refl; vers = refl }
+returns c = record { members = c.with_member.ensures; comps = refl; vers = refl }

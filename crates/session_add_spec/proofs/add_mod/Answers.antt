@@ -1,35 +1,38 @@
-use Rattle.std.specs.Prelude.{not}
-use Rattle.std.proofs.Common.{ap, refl}
-use Rattle.session_add.specs.AddingLaws.{way_accepted, way_refused, way_unasked}
+use Rattle.std.proofs.Common.{◌∙◌, sym}
+use Rattle.session_add.specs.AddingLaws.{ready_asked, ready_named, way_accepted, way_no_place, way_refused}
 use Rattle.session_add.specs.AskedLaws.{mod_adds}
 use Rattle.session_add_spec.proofs.add_mod.Goals as goal
 
-pub read_mod-r-requires-clause-kept : goal.read_mod-r-requires-clause-kept
-read_mod-r-requires-clause-kept c = c.requires.ready.comps
+pub returns-in_err-r-clause-answers : goal.returns-in_err-r-clause-answers
+returns-in_err-r-clause-answers c = rw c.from_residual.ensures (c.in_err-r.ensures.by_index c.args.state.now.names.facs)
 
-pub read_mod-r-requires-clause-kept_2 : goal.read_mod-r-requires-clause-kept_2
-read_mod-r-requires-clause-kept_2 c = c.requires.ready.vers
+pub returns-then-not-r-clause-answers : goal.returns-then-not-r-clause-answers
+returns-then-not-r-clause-answers c =
+    way_no_place c.args.state.now.ready c.args.reader.now c.read_mod.new.reader (c.in_ok-r.ensures.by_index _) _ _ _ _
+    (λ x. mod_adds _ _ x _) c.if-not-r.true
 
-pub read_mod-r-requires-clause-kept_3 : goal.read_mod-r-requires-clause-kept_3
-read_mod-r-requires-clause-kept_3 c = c.requires.ready.impls
+pub invariant_of-state : goal.invariant_of-state
+invariant_of-state c =
+    let before = c.args.state.now.ready in let k = c.in_ok-r.ensures in
+    record {
+      ready = ready_named before c.args.reader.now c.read_mod.new.reader (k.by_index _) _ _ _ _ (λ x. mod_adds _ _ x _)
+          c.if-not-r.false _ c.answer_mod-answer.ensures k.kept_4 k.kept_5 before.facs k.kept_6;
+    }
 
-pub read_mod-r-requires-clause-at_in_bounds : goal.read_mod-r-requires-clause-at_in_bounds
-read_mod-r-requires-clause-at_in_bounds c = c.requires.at_in_bounds
+pub invariant_of-state-else-is_ok : goal.invariant_of-state-else-is_ok
+invariant_of-state-else-is_ok c =
+    let before = c.args.state.now.ready in let k = c.in_ok-r.ensures in
+    record {
+      ready = ready_asked before c.args.reader.now c.read_mod.new.reader (k.by_index _) _ _ _ _ (λ x. mod_adds _ _ x _)
+          c.if-not-r.false _ c.answer_mod-answer.ensures;
+    }
 
-pub returns-then-not-r : goal.returns-then-not-r
-returns-then-not-r c =
-    let all_of = way_unasked _ _ _ _ _ _ c.requires.ready _ _ _ _ _ _ (c.read_mod-r.ensures.by_index _) _ _ _ _ _ _ (λ x. mod_adds _ _ x _) (ap not c.if-not-r.true) _ c.unasked.ensures in
-    record { ready_2 = all_of.0; answers = all_of.1.0; undecided = all_of.1.1; facs_kept = refl }
+pub returns-then-is_ok-clause-answers : goal.returns-then-is_ok-clause-answers
+returns-then-is_ok-clause-answers c =
+    way_accepted c.args.state.now.ready c.args.reader.now c.read_mod.new.reader (c.in_ok-r.ensures.by_index _) _ _ _ _
+    (λ x. mod_adds _ _ x _) c.if-not-r.false _ c.answer_mod-answer.ensures (sym c.is_ok.ensures.value ∙ c.if-is_ok.true)
 
-pub answer_mod-answer-requires : goal.answer_mod-answer-requires
-answer_mod-answer-requires c = c.requires.ready.passes
-
-pub returns-then-answer-eq0 : goal.returns-then-answer-eq0
-returns-then-answer-eq0 c =
-    let all_of = way_accepted _ _ _ _ _ _ c.requires.ready _ _ _ _ _ _ (c.read_mod-r.ensures.by_index _) _ _ _ _ _ _ (λ x. mod_adds _ _ x _) (ap not c.if-not-r.false) _ _ _ c.answer_mod-answer.ensures c.read_mod-r.ensures.kept_4 c.read_mod-r.ensures.kept_5 c.requires.ready.facs c.read_mod-r.ensures.kept_6 c.if-answer-eq0.true in
-    record { ready_2 = all_of.0; answers = all_of.1.0; undecided = all_of.1.1; facs_kept = refl }
-
-pub returns-else-answer-eq0 : goal.returns-else-answer-eq0
-returns-else-answer-eq0 c =
-    let all_of = way_refused _ _ _ _ _ _ c.requires.ready _ _ _ _ _ _ (c.read_mod-r.ensures.by_index _) _ _ _ _ _ _ (λ x. mod_adds _ _ x _) (ap not c.if-not-r.false) _ _ _ c.answer_mod-answer.ensures c.if-answer-eq0.false in
-    record { ready_2 = all_of.0; answers = all_of.1.0; undecided = all_of.1.1; facs_kept = refl }
+pub returns-else-is_ok-clause-answers : goal.returns-else-is_ok-clause-answers
+returns-else-is_ok-clause-answers c =
+    way_refused c.args.state.now.ready c.args.reader.now c.read_mod.new.reader (c.in_ok-r.ensures.by_index _) _ _ _ _
+    (λ x. mod_adds _ _ x _) c.if-not-r.false _ c.answer_mod-answer.ensures (sym c.is_ok.ensures.value ∙ c.if-is_ok.false)

@@ -3,15 +3,6 @@ use Rattle.session_rows.specs.AskedLaws.{component_kind}
 use Rattle.read_command.specs.declared.OfComponent.TheVariants.{Supplies, Standard, WhereUsed}
 use Rattle.session_ask_component.proofs.put_of_component.Goals as goal
 
-pub put_supplies-requires : goal.put_supplies-requires
-put_supplies-requires c = c.requires
-
-pub put_standard-requires : goal.put_standard-requires
-put_standard-requires c = c.requires
-
-pub put_whereused-requires : goal.put_whereused-requires
-put_whereused-requires c = c.requires
-
 pub returns-in-Supplies : goal.returns-in-Supplies
 unfolding query_of
 returns-in-Supplies c = component_kind _ _ Supplies c.in-Supplies.is _ _ c.put_supplies.ensures

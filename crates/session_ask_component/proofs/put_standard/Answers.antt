@@ -1,17 +1,9 @@
-use Rattle.std.proofs.Common.{refl}
 use Rattle.session_rows.specs.ShownLaws.{version_refused, version_shown}
 use Rattle.session_ask_component.proofs.put_standard.Goals as goal
 
-pub standard_in-found-requires : goal.standard_in-found-requires
-standard_in-found-requires c = c.requires.passes
+pub returns-in-Ok : goal.returns-in-Ok
+returns-in-Ok c =
+    version_shown _ _ _ _ _ _ _ c.args.state.now.ready _ c.standard_in.ensures _ c.in-Ok.is c.put_answer_row.ensures c.put_name_row.ensures
 
-pub returns-then-found-ne0 : goal.returns-then-found-ne0
-returns-then-found-ne0 c = version_refused _ _ _ _ _ _ _ c.requires _ c.standard_in-found.ensures c.from.ensures c.put_answer_row-a.ensures c.if-found-ne0.true
-
-pub put_name_row-requires : goal.put_name_row-requires
-put_name_row-requires c = c.requires.vers.long
-
-pub returns : goal.returns
-returns c =
-    version_shown _ _ _ _ _ _ _ c.requires _ c.standard_in-found.ensures c.from.ensures c.put_answer_row-a.ensures c.if-found-ne0.false
-    _ refl c.put_name_row.ensures
+pub returns-in-Err : goal.returns-in-Err
+returns-in-Err c = version_refused _ _ _ _ _ _ _ c.args.state.now.ready _ c.standard_in.ensures _ c.in-Err.is c.put_refusal.ensures

@@ -1,11 +1,6 @@
+use Rattle.write_bytes.specs.WritesLaws.{writes_as}
 use Rattle.session_rows.specs.ShownLaws.{facilities_shown}
 use Rattle.session_ask_component.proofs.put_supplies.Goals as goal
 
-pub supplies_in-found-requires : goal.supplies_in-found-requires
-supplies_in-found-requires c = c.requires.passes
-
-pub put_numbers-requires : goal.put_numbers-requires
-put_numbers-requires c = c.requires.facs.long
-
 pub returns : goal.returns
-returns c = facilities_shown _ _ _ _ _ _ _ c.requires _ _ _ c.supplies_in-found.ensures c.put_numbers.ensures
+returns c = writes_as (facilities_shown _ _ _ _ _ _ _ c.args.state.now.ready _ _ _ c.supplies_in-reply.ensures) c.put_numbers.ensures

@@ -1,20 +1,8 @@
 use Rattle.session_rows.specs.AskedLaws.{number_small, version_known, version_no_component, version_no_number}
 use Rattle.session_ask_version.proofs.put_named_version.Goals as goal
 
-pub lookup-requires-clause-names_len : goal.lookup-requires-clause-names_len
-lookup-requires-clause-names_len c = c.requires.ready.comps.long
-
-pub lookup-requires-clause-word_value : goal.lookup-requires-clause-word_value
-lookup-requires-clause-word_value c = c.requires.component_value.0
-
 pub returns-in_default : goal.returns-in_default
-returns-in_default c = version_no_component _ _ _ _ _ _ _ _ _ _ _ c.lookup.ensures c.in_default.is c.put_answer_row.ensures
-
-pub lookup-requires-2-clause-names_len : goal.lookup-requires-2-clause-names_len
-lookup-requires-2-clause-names_len c = c.requires.ready.vers.long
-
-pub lookup-requires-2-clause-word_value : goal.lookup-requires-2-clause-word_value
-lookup-requires-2-clause-word_value c = c.requires.component_value.1
+returns-in_default c = version_no_component _ _ _ _ _ _ _ _ _ _ _ c.lookup.ensures c.in_default.is c.put_refusal.ensures
 
 pub no_version-requires : goal.no_version-requires
 no_version-requires c = number_small _ _ _ _ _ c.lookup.ensures c.in-Some.is
@@ -22,10 +10,7 @@ no_version-requires c = number_small _ _ _ _ _ c.lookup.ensures c.in-Some.is
 pub returns-in_default-lookup : goal.returns-in_default-lookup
 returns-in_default-lookup c =
     version_no_number _ _ _ _ _ _ _ _ _ _ _ c.lookup.ensures _ c.in-Some.is _ c.lookup-2.ensures c.in_default-lookup.is
-    _ c.no_version.ensures c.put_answer_row-in_default-lookup.ensures
-
-pub put_of_version-requires : goal.put_of_version-requires
-put_of_version-requires c = c.requires.ready
+    _ c.no_version.ensures c.put_refusal-in_default-lookup.ensures
 
 pub returns : goal.returns
 returns c =

@@ -3,12 +3,6 @@ use Rattle.session_rows.specs.AskedLaws.{version_kind}
 use Rattle.read_command.specs.declared.OfVersion.TheVariants.{Needs, Parts}
 use Rattle.session_ask_version.proofs.put_of_version.Goals as goal
 
-pub put_needs-requires : goal.put_needs-requires
-put_needs-requires c = c.requires
-
-pub put_parts-requires : goal.put_parts-requires
-put_parts-requires c = c.requires
-
 pub returns-in-Needs : goal.returns-in-Needs
 unfolding query_of_version
 returns-in-Needs c = version_kind _ _ Needs c.in-Needs.is _ _ _ c.put_needs.ensures

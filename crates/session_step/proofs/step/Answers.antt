@@ -1,34 +1,22 @@
 use Rattle.session_step.specs.StepLaws.{steps_asked, steps_changed, steps_nothing, steps_over}
 use Rattle.session_step.proofs.step.Goals as goal
 
-pub returns-in-Changes-clause-ready : goal.returns-in-Changes-clause-ready
-returns-in-Changes-clause-ready c =
-    let e = c.change.ensures in
-    e.ready_2
+pub returns-in-Some-Changes : goal.returns-in-Some-Changes
+returns-in-Some-Changes c =
+    let r = c.new-reader in
+    steps_changed _ r.result c.read_command.new.reader r.ensures.text r.ensures.at c.in-Some-Changes.ensures _ c.in-Some-Changes.field-0-is c.change.ensures
 
-pub returns-in-Changes-clause-stepped : goal.returns-in-Changes-clause-stepped
-returns-in-Changes-clause-stepped c =
-    let e = c.change.ensures in
-    steps_changed c.read_command-w.ensures _ c.in-Changes.is e.behind
+pub returns-in-Some-Asks : goal.returns-in-Some-Asks
+returns-in-Some-Asks c =
+    let r = c.new-reader in
+    steps_asked _ r.result c.read_command.new.reader r.ensures.text r.ensures.at c.in-Some-Asks.ensures _ c.in-Some-Asks.field-0-is c.ask.ensures
 
-pub returns-in-Asks-clause-ready : goal.returns-in-Asks-clause-ready
-returns-in-Asks-clause-ready c = c.requires
+pub returns-in-Some-Over : goal.returns-in-Some-Over
+returns-in-Some-Over c =
+    let r = c.new-reader in
+    steps_over _ r.result c.read_command.new.reader r.ensures.text r.ensures.at c.in-Some-Over.ensures c.in-Some-Over.field-0-is
 
-pub returns-in-Asks-clause-stepped : goal.returns-in-Asks-clause-stepped
-returns-in-Asks-clause-stepped c =
-    steps_asked c.read_command-w.ensures _ c.in-Asks.is
-    c.ask.ensures
-
-pub returns-in-Over-clause-ready : goal.returns-in-Over-clause-ready
-returns-in-Over-clause-ready c = c.requires
-
-pub returns-in-Over-clause-stepped : goal.returns-in-Over-clause-stepped
-returns-in-Over-clause-stepped c = steps_over c.read_command-w.ensures c.in-Over.is
-
-pub returns-in-Nothing-clause-ready : goal.returns-in-Nothing-clause-ready
-returns-in-Nothing-clause-ready c = c.requires
-
-pub returns-in-Nothing-clause-stepped : goal.returns-in-Nothing-clause-stepped
-returns-in-Nothing-clause-stepped c =
-    steps_nothing c.read_command-w.ensures c.in-Nothing.is
-    c.refuse.ensures
+pub returns-in-None : goal.returns-in-None
+returns-in-None c =
+    let r = c.new-reader in
+    steps_nothing _ r.result c.read_command.new.reader r.ensures.text r.ensures.at c.in-None.ensures c.refuse.ensures.none c.refuse.ensures.puts

@@ -4,5 +4,5 @@ use Rattle.try_demand_3.proofs.teach.Goals as goal
 
 pub returns : goal.returns
 returns c =
-    demand-3 c.fresh.ensures
-    (run_on c.build-first.ensures c.try_each-then.ensures)
+    demand-3 c.fresh-book.ensures
+    (run_on c.build-built.ensures c.try_each-tried.ensures)

@@ -1,5 +1,5 @@
 use Rattle.std.proofs.Common.{refl}
-use Rattle.try_language.specs.InsideLaws.{zeros_kept}
+use Rattle.try_language.specs.TableLaws.{zeros_kept}
 use Rattle.try_language.proofs.print_text.Goals as goal
 
 pub print_commands-requires-clause-kept : goal.print_commands-requires-clause-kept

@@ -1,18 +1,12 @@
-use Rattle.std.proofs.Common.{arith, ◌∙◌, refl}
+use Rattle.std.proofs.Common.{arith, ◌∙◌}
 use Rattle.sets.specs.Answered.{answered}
 use Rattle.names.specs.EnterLaws.{found_at, found_nothing}
 use Rattle.write_bytes.specs.ByNameLaws.{fewer, first_below}
 use Rattle.write_book.specs.SystemLaws.{next_found, next_none, next_not}
 use Rattle.write_book.proofs.next_system.Goals as goal
 
-pub loop-s-init : goal.loop-s-init
-loop-s-init c = refl
-
 pub is_next-requires-clause-s_bound : goal.is_next-requires-clause-s_bound
 is_next-requires-clause-s_bound c = first_below _ _ _ _ (found_at _ _ _ c.first_by_name.ensures c.in-Some.is)
-
-pub is_next-requires-clause-systems_value : goal.is_next-requires-clause-systems_value
-is_next-requires-clause-systems_value c = c.requires
 
 pub returns-then-is_next : goal.returns-then-is_next
 unfolding answered

@@ -10,7 +10,7 @@ use Rattle.write_book.proofs.put_lines.Given as goal
 abbrev pub invariant-loop-c : goal.invariant-loop-c
 invariant-loop-c l =
     Listing [] [] (line_of l.kind (plain l.book) (tables l.names)) (table_of 32 l.names.comps) 32 (bit l.set) (bit l.rest) []
-    l.initial.after l.after l.initial.out l.out
+    l.initial.writer l.writer
 
 abbrev pub decreases-loop-c : goal.decreases-loop-c
 decreases-loop-c l = length (by_name (table_of 32 l.names.comps) 32 (bit l.rest))

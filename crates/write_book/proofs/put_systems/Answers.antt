@@ -3,25 +3,19 @@ use Rattle.names.specs.EnterLaws.{found_at, found_nothing}
 use Rattle.names.specs.Stored.{tables_of}
 use Rattle.text.specs.Written.{systems_in_order}
 use Rattle.write_line.specs.Lines.{system_lines}
-use Rattle.write_book.specs.SystemLaws.{next_below, order_end, order_keeps, order_start, order_stop, order_turn}
+use Rattle.write_book.specs.SystemLaws.{next_below, order_end, order_start, order_stop, order_turn}
 use Rattle.write_book.proofs.put_systems.Goals as goal
 
 pub loop-i-init : goal.loop-i-init
 unfolding system_lines systems_in_order tables_of
-loop-i-init c = (omega arith, order_start _ _ _ _ _)
-
-pub next_system-requires : goal.next_system-requires
-next_system-requires c = c.requires
-
-pub shape_of-out-in_default : goal.shape_of-out-in_default
-shape_of-out-in_default c = order_keeps c.loop-i.invariant.1
+loop-i-init c = (omega arith, order_start _ _ _ _)
 
 pub returns-in_default : goal.returns-in_default
 returns-in_default c =
     order_stop c.loop-i.invariant.1 _ c.requires c.loop-i-test.true (found_nothing _ _ c.next_system.ensures c.in_default.is)
 
-pub put_line-after-requires : goal.put_line-after-requires
-put_line-after-requires c = next_below _ _ _ _ _ (found_at _ _ _ c.next_system.ensures c.in-Some.is)
+pub put_line-requires : goal.put_line-requires
+put_line-requires c = next_below _ _ _ _ _ (found_at _ _ _ c.next_system.ensures c.in-Some.is)
 
 pub with-done-requires : goal.with-done-requires
 with-done-requires c = let h = next_below _ _ _ _ _ (found_at _ _ _ c.next_system.ensures c.in-Some.is) in omega (arith, h)
@@ -30,11 +24,8 @@ pub loop-i-preserved : goal.loop-i-preserved
 loop-i-preserved c = (
   omega arith,
   order_turn c.loop-i.invariant.1 _ c.requires c.loop-i-test.true (found_at _ _ _ c.next_system.ensures c.in-Some.is)
-      c.put_line-after.ensures c.with-done.ensures,
+      c.put_line.ensures c.with-done.ensures,
 )
-
-pub shape_of-out : goal.shape_of-out
-shape_of-out c = order_keeps c.loop-i.invariant.1
 
 pub returns : goal.returns
 returns c = order_end c.loop-i.invariant.1 c.loop-i-test.false

@@ -11,4 +11,4 @@ abbrev pub invariant-loop-i : goal.invariant-loop-i
 invariant-loop-i l =
     (l.i ≤ 32) × InOrder (system_lines (plain l.book) (tables l.names))
     (line_of System (plain l.book) (tables l.names)) (systems_of l.book.sets l.book.numbers) (table_of 32 l.names.comps) l.i (bit l.done)
-    l.initial.after l.after l.initial.out l.out
+    l.initial.writer l.writer

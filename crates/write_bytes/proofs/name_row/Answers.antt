@@ -1,16 +1,10 @@
-use Rattle.write_bytes.specs.WrittenLaws.{does_fit, does_not_fit, left_over, row_as}
+use Rattle.std.proofs.Common.{rules}
+use Rattle.text.specs.Session.{row}
+use Rattle.text.specs.Tables.{name_at}
+use Rattle.names.specs.Stored.{table_of}
+use Rattle.write_bytes.specs.WritesLaws.{writes_row_as}
 use Rattle.write_bytes.proofs.name_row.Goals as goal
 
-pub returns-then-not-measured : goal.returns-then-not-measured
-returns-then-not-measured c =
-    let all_of = does_not_fit _ _ (row_as _ c.name-word.ensures c.put_name-measured.ensures) c.if-not-measured.true in
-    record { value = all_of.0; out_after = all_of.1 }
-
-pub overflow_sub-result : goal.overflow_sub-result
-overflow_sub-result c = left_over c.put_name-measured.ensures c.if-not-measured.false
-
-pub returns : goal.returns
-returns c =
-    let e = c.name-word.ensures in
-    let all_of = does_fit _ _ (row_as _ e c.put_name-measured.ensures) c.if-not-measured.false (row_as _ e c.put_name.ensures) in
-    record { value = all_of.0; out_after = all_of.1 }
+pub write_whole-requires-clause-puts : goal.write_whole-requires-clause-puts
+write_whole-requires-clause-puts c =
+    (row c.args.i (name_at (table_of c.args.places c.args.names.now) c.args.k), λ a b k. writes_row_as _ c.name-word.ensures (search rules))

@@ -16,8 +16,8 @@ loop-v-smaller c = listing_less c.loop-v.invariant (found_at _ _ _ c.first_by_na
 pub loop-v-preserved : goal.loop-v-preserved
 unfolding bytes
 loop-v-preserved c =
-    listing_turn c.loop-v.invariant (found_at _ _ _ c.first_by_name.ensures c.in-Some.is) c.without-rest.ensures c.put-after.ensures
-    c.put_version-after.ensures
+    listing_turn c.loop-v.invariant (found_at _ _ _ c.first_by_name.ensures c.in-Some.is) c.without-rest.ensures c.put.ensures
+    c.put_version.ensures
 
 pub returns : goal.returns
 returns c = listed_end c.loop-v.invariant (found_nothing _ _ c.first_by_name.ensures c.in_default.is)

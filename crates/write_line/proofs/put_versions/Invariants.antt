@@ -11,7 +11,7 @@ use Rattle.write_line.proofs.put_versions.Given as goal
 abbrev pub invariant-loop-v : goal.invariant-loop-v
 invariant-loop-v l =
     Listing [] (bytes "; ") (version_of l.kind (plain l.book) (tables l.names) l.c) (table_of 64 l.names.vers) 64 (bit l.set)
-    (bit l.rest) l.semicolon l.initial.after l.after l.initial.out l.out
+    (bit l.rest) l.semicolon l.initial.writer l.writer
 
 abbrev pub decreases-loop-v : goal.decreases-loop-v
 decreases-loop-v l = length (by_name (table_of 64 l.names.vers) 64 (bit l.rest))

@@ -1,16 +1,14 @@
-use Rattle.std.specs.Prelude.{not}
-use Rattle.std.proofs.Common.{ap}
-use Rattle.write_bytes.specs.WrittenLaws.{pair_row_as}
-use Rattle.write_rows.specs.RestLaws.{fitted, rest_puts}
+use Rattle.std.proofs.Common.{refl}
+use Rattle.write_bytes.specs.WritesLaws.{writes_pair_row_as}
+use Rattle.write_rows.specs.RestLaws.{rest_puts}
 use Rattle.write_rows.proofs.put_pair_row.Goals as goal
 
-pub returns-then-not-has_rest : goal.returns-then-not-has_rest
-returns-then-not-has_rest c = pair_row_as _ _ _ _ _ c.name-component.ensures c.name-version.ensures c.put_pair.ensures
-
-pub overflow_sub-at : goal.overflow_sub-at
-overflow_sub-at c = (fitted _ _ c.has_rest.ensures (ap not c.if-not-has_rest.false)).1
+pub returns-in_default : goal.returns-in_default
+returns-in_default c = writes_pair_row_as _ _ _ _ _ c.name-component.ensures c.name-version.ensures c.put_pair.ensures
 
 pub returns : goal.returns
-returns c =
-    let f = fitted _ _ c.has_rest.ensures (ap not c.if-not-has_rest.false) in
-    rest_puts _ _ _ f.0 f.1 c.pair_row.ensures.value c.pair_row.ensures.out_after c.behind.ensures
+returns c = record {
+  puts = rest_puts _ c.args.writer.now _ c.start.ensures.value c.in-Some.is c.pair_row-row.ensures.value
+      c.pair_row-row.ensures.out_after c.behind-writer.ensures;
+  same_slice = refl;
+}

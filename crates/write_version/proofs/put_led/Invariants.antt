@@ -10,7 +10,7 @@ use Rattle.write_version.proofs.put_led.Given as goal
 abbrev pub invariant-loop-k : goal.invariant-loop-k
 invariant-loop-k l =
     Listing l.first (bytes ", ") (name_at (table_of l.places l.names)) (table_of l.places l.names) l.places (bit l.set) (bit l.rest) l.before
-    l.initial.after l.after l.initial.out l.out
+    l.initial.writer l.writer
 
 abbrev pub decreases-loop-k : goal.decreases-loop-k
 decreases-loop-k l = length (by_name (table_of l.places l.names) l.places (bit l.rest))

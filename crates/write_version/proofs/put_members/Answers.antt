@@ -8,12 +8,12 @@ use Rattle.write_version.proofs.put_members.Goals as goal
 pub loop-c-init : goal.loop-c-init
 loop-c-init c = listing_start
 
-pub put_member-after-requires-clause-s_bound : goal.put_member-after-requires-clause-s_bound
-put_member-after-requires-clause-s_bound c =
+pub put_member-requires-clause-s_bound : goal.put_member-requires-clause-s_bound
+put_member-requires-clause-s_bound c =
     (c.requires.s_bound, listing_below c.loop-c.invariant (found_at _ _ _ c.first_by_name.ensures c.in-Some.is))
 
-pub put_member-after-requires-clause-c_value : goal.put_member-after-requires-clause-c_value
-put_member-after-requires-clause-c_value c =
+pub put_member-requires-clause-c_value : goal.put_member-requires-clause-c_value
+put_member-requires-clause-c_value c =
     sym (ap (λ (a : Set). a c.in-Some.c) c.requires.set_value)
     ∙ listing_in_lem c.loop-c.invariant (found_at _ _ _ c.first_by_name.ensures c.in-Some.is)
 
@@ -26,8 +26,8 @@ loop-c-smaller c = listing_less c.loop-c.invariant (found_at _ _ _ c.first_by_na
 pub loop-c-preserved : goal.loop-c-preserved
 unfolding bytes
 loop-c-preserved c =
-    listing_turn c.loop-c.invariant (found_at _ _ _ c.first_by_name.ensures c.in-Some.is) c.without-rest.ensures c.put-after.ensures
-    c.put_member-after.ensures
+    listing_turn c.loop-c.invariant (found_at _ _ _ c.first_by_name.ensures c.in-Some.is) c.without-rest.ensures c.put.ensures
+    c.put_member.ensures
 
 pub returns : goal.returns
 returns c = listed_end c.loop-c.invariant (found_nothing _ _ c.first_by_name.ensures c.in_default.is)

@@ -11,7 +11,7 @@ use Rattle.write_version.proofs.put_members.Given as goal
 abbrev pub invariant-loop-c : goal.invariant-loop-c
 invariant-loop-c l =
     Listing [] (bytes ", ") (member_text (plain l.book) (tables l.names) l.s l.v) (table_of 32 l.names.comps) 32 (bit l.set)
-    (bit l.rest) l.comma l.initial.after l.after l.initial.out l.out
+    (bit l.rest) l.comma l.initial.writer l.writer
 
 abbrev pub decreases-loop-c : goal.decreases-loop-c
 decreases-loop-c l = length (by_name (table_of 32 l.names.comps) 32 (bit l.rest))

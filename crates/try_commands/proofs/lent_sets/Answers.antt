@@ -1,5 +1,0 @@
-use Rattle.std.proofs.Common.{sym, length-take-le}
-use Rattle.try_commands.proofs.lent_sets.Goals as goal
-
-pub slice_bounds-result-end : goal.slice_bounds-result-end
-slice_bounds-result-end c = sym (length-take-le _ _ c.if-n-sets.true)

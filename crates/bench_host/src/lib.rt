@@ -1,5 +1,5 @@
 // The test for 25, the ten calls, the queries and the parts list for a host in C or Rust, which lends a Book as its two arrays. The test in
-// tests/numbers and the benchmark in bench/ link them.
+// tests/numbers and the benchmark in bench/ link them. Names, numbers of calls, arrays and slices are the C interface.
 #![tactic(auto)]
 
 ghost use Rattle.std.specs.Prelude.{◌≡◌, length};
@@ -16,6 +16,7 @@ ghost use Rattle.refusal.specs.Numbers.{code, found};
 use book::Book;
 use refusal::Refusal;
 
+// The test for 25. The Book's two arrays are the C interface.
 #[unsafe(no_mangle)]
 pub extern "C" fn version_book_test(sets: &[u64; 576], numbers: &[u8; 8768]) -> bool
     ensures { result ≡ test.passes sets.now numbers.now }
@@ -28,6 +29,7 @@ pub extern "C" fn version_book_test(sets: &[u64; 576], numbers: &[u8; 8768]) -> 
 }
 
 // The call of a number, as in demand_3::call; ADD-MOD's implementations are lengths. The Book that it leaves is written into the last two arrays.
+// All parameters are the C interface.
 #[unsafe(no_mangle)]
 pub extern "C" fn version_book_call(
     sets: &[u64; 576],
@@ -62,7 +64,8 @@ pub extern "C" fn version_book_call(
     refusal::code(answer)
 }
 
-// The parts list of version v of c, written into out. It gives the answer, and writes how many rows there are and a depth.
+// The parts list of version v of c, written into out. It gives the answer, and writes how many rows there are and a depth. The parameters, which
+// differ from those of the others, are the C interface.
 #[unsafe(no_mangle)]
 pub extern "C" fn version_book_parts(
     sets: &[u64; 576],
@@ -93,8 +96,8 @@ pub extern "C" fn version_book_parts(
     }
 }
 
-// The query of a number: SUPPLIES 0, NEEDS 1, UNDEFINED 2, UNUSED 3, WHEREUSED 4, any other STANDARD. It gives the set or the version as a
-// number.
+// The query of a number: SUPPLIES 0, NEEDS 1, UNDEFINED 2, UNUSED 3, WHEREUSED 4, any other STANDARD: the C interface. It gives the set or the
+// version as a number.
 fn query(book: &Book, kind: usize, c: usize, v: usize) -> Result<u64, Refusal>
     ensures { Replied (asked_by kind c v).1 (code result) (found result)
         (replied_to book.now.sets book.now.numbers (asked_by kind c v).0) }
@@ -115,10 +118,11 @@ fn query(book: &Book, kind: usize, c: usize, v: usize) -> Result<u64, Refusal>
         return queries::whereused(book, c);
     }
     let version = queries::standard(book, c)?;
+    // `as`: `u64` has no `From` of a `usize`
     Ok(version as u64)
 }
 
-// The query of a number. It gives the answer, and writes the set or the version: 0 where it is refused.
+// The query of a number. It gives the answer, and writes the set or the version: 0 where it is refused. The parameters are the C interface.
 #[unsafe(no_mangle)]
 pub extern "C" fn version_book_query(
     sets: &[u64; 576],
@@ -147,7 +151,8 @@ pub extern "C" fn version_book_query(
     }
 }
 
-// CHOICE of a set of facilities, its rows written into out. It gives the answer, and writes how many rows there are.
+// CHOICE of a set of facilities, its rows written into out. It gives the answer, and writes how many rows there are. The parameters are the C
+// interface.
 #[unsafe(no_mangle)]
 pub extern "C" fn version_book_choice(
     sets: &[u64; 576],

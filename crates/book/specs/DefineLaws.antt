@@ -2,7 +2,7 @@
 use Rattle.std.specs.Prelude.{false, true, List, ◌≢◌, ◌≡◌, ◌*◌, ◌+◌, ◌<◌, ◌^◌, ◌≤◌, ℕ, length, set}
 use Rattle.std.proofs.Math.Logic.{inl, inr}
 use Rattle.std.proofs.Math.Option.{Option, none, some}
-use Rattle.std.proofs.Common.{◌∙◌, not-suc-le-zero, arith, length-set, get_or-set_same}
+use Rattle.std.proofs.Common.{◌∙◌, arith, get_or-set_same}
 use Rattle.std.proofs.Math.Path.{ap, ap₂, fun_ext, refl, sym}
 use Rattle.std.proofs.Math.ListN.{get_or}
 use Rattle.std.proofs.Math.Seq.{get_or-set_other}
@@ -14,7 +14,7 @@ use Rattle.book.specs.Proper.{facts_proper, proper_component, specified_kind}
 use Rattle.book.specs.PutLaws.{module_or_system, no_module, no_system}
 use Rattle.book.specs.ReadLaws.{book_ext, has_version_plain, is_module_plain, is_system_plain, kind_specified, map_at, map-none}
 use Rattle.book.specs.ReadLaws.{place-limit, specified_plain}
-use Rattle.book.specs.Readers.{not_kind, not-specified, specified_at_lem}
+use Rattle.book.specs.KindLaws.{not_kind, not-specified, specified_at_lem}
 use Rattle.book.specs.Same.{AtComponent, SameComponent, map_same, other_modules, other_specs, other_systems, others}
 use Rattle.book.specs.Same.{place-slot, proper_rest, specs_ext, system_ext}
 use Rattle.book.specs.SlotLaws.{distinct_same, only_no, only_yes, slot_same}
@@ -152,43 +152,15 @@ module _ (s n : List ℕ) (c : ℕ) (c< : c < components) (ln : length n ≡ 876
 
 -- the implementations of the first j slots of c are stored
 pub record Implemented (n₀ given : List ℕ) (c j : ℕ) (n : List ℕ) : Type 0 where
-  pub size : length n ≡ 8768
   pub others : (x : ℕ) → ((k : ℕ) → k < 8 → x ≢ 320 + (c * 8 + k)) → get_or n x 0 ≡ get_or n₀ x 0
   pub stored : (k : ℕ) → k < j → slots_of n₀ c k < versions → implementation_at n (c * 8 + k) ≡ get_or given (slots_of n₀ c k) 0
-
-module _ (n₀ given : List ℕ) (c : ℕ) (c< : c < components) where
-  pub implemented_start : length n₀ ≡ 8768 → Implemented n₀ given c 0 n₀
-  implemented_start l = record { size = l; others = λ x h. refl; stored = λ k h. absurd (not-suc-le-zero h) }
-
-  module _ (j : ℕ) (n : List ℕ) (j< : j < 8) (done : Implemented n₀ given c j n) {x : ℕ} (ex : x ≡ slots_of n c j) where
-    same : slots_of n c j ≡ slots_of n₀ c j
-    same = done.others (64 + (c * 8 + j)) (λ k h. omega arith)
-
-    pub implemented_hit : x < versions → Implemented n₀ given c (j + 1) (set n (320 + (c * 8 + j)) (get_or given x 0))
-    implemented_hit l = record {
-      size = length-set n (320 + (c * 8 + j)) (get_or given x 0) ∙ done.size;
-      others = λ y h. get_or-set_other n (320 + (c * 8 + j)) y (get_or given x 0) 0 (h j j<) ∙ done.others y h;
-      stored = λ k h lo. elim (same? k j) [
-        | inl e ↦ rw e (get_or-set_same n (320 + (c * 8 + j)) (get_or given x 0) 0 (omega (arith, done.size)) ∙ ap (λ (v : ℕ). get_or given v 0) (ex ∙ same))
-        | inr ne ↦ get_or-set_other n (320 + (c * 8 + j)) (320 + (c * 8 + k)) (get_or given x 0) 0 (omega arith) ∙ done.stored k (omega arith) lo
-      ];
-    }
-
-    pub implemented_miss : versions ≤ x → Implemented n₀ given c (j + 1) n
-    implemented_miss l = record {
-      size = done.size;
-      others = done.others;
-      stored = λ k h lo. elim (same? k j) [
-        | inl e ↦ absurd (omega (arith, lo, l, ex ∙ same ∙ ap (slots_of n₀ c) (sym e)))
-        | inr ne ↦ done.stored k (omega arith) lo
-      ];
-    }
 
 -- what a writer that puts in a definition asks: a specified component that is not defined
 pub defined_none : (s n : List ℕ) (c : ℕ) → is_defined (modules_of n) (systems_of s n) c ≡ false → (is_module (modules_of n) c ≡ false) × (is_system (systems_of s n) c ≡ false)
 defined_none s n c e = not_defined _ _ c (not_in _ e)
 
-module _ (s n given : List ℕ) (c : ℕ) (t : TakesDefinition s n c) (n' : List ℕ) (j : ℕ) (j≥ : 8 ≤ j) (done : Implemented n given c j n') where
+module _ (s n given : List ℕ) (c : ℕ) (t : TakesDefinition s n c) (n' : List ℕ) (ln : length n' ≡ 8768) (j : ℕ) (j≥ : 8 ≤ j)
+    (done : Implemented n given c j n') where
   abbrev n₂ : List ℕ
   n₂ = set n' c 2
 
@@ -199,7 +171,7 @@ module _ (s n given : List ℕ) (c : ℕ) (t : TakesDefinition s n c) (n' : List
   there₂ = sym (specified_plain s n c) ∙ t.is_specified
 
   kind₂ : kind_at n₂ c ≡ 2
-  kind₂ = get_or-set_same n' c 2 0 (omega (arith, done.size, t.component<))
+  kind₂ = get_or-set_same n' c 2 0 (omega (arith, ln, t.component<))
 
   at₂ : AtComponent s n s n₂ c
   at₂ = record { sets = λ x a b d e. refl; numbers = λ x a b d e f. get_or-set_other n' c x 2 0 a ∙ done.others x e }

@@ -1,5 +1,7 @@
 pub mod Layout
 pub mod Plain
+pub mod Kinds
+pub mod KindLaws
 pub mod SlotLaws
 pub mod ReadLaws
 pub mod Readers

@@ -9,12 +9,16 @@ use Rattle.model.specs.Book.{Book, Modules, Spec, Specs, System, Systems, compon
 use Rattle.model.specs.Lists.{first_from}
 use Rattle.model.specs.Maps.{Map, only_if, option_map}
 use Rattle.sets.specs.Sets.{Set, bit}
-use Rattle.sets.specs.Tests.{◌&◌, ◌<?◌, ◌=?◌, ◌⇒◌, ◌≤?◌, all, if?◌then◌else◌, ~◌}
+use Rattle.sets.specs.Tests.{◌&◌, ◌<?◌, ◌=?◌, ◌⇒◌, ◌≤?◌, all, any, if?◌then◌else◌, ~◌}
 use Rattle.sets.specs.Sets as sets
 
 -- the lowest slot that has the version v, where vs j is the version in slot j; a number of 64 or more is no version
 unfoldable pub slot : (ℕ → ℕ) → ℕ → Option ℕ
 slot vs v = if? v <? versions then first_from 8 0 (λ j. only_if (vs j =? v) j) else none
+
+-- the versions among the first j of these numbers
+unfoldable pub among_first : ℕ → (ℕ → ℕ) → Set
+among_first j vs u = u <? versions & any j (λ k. vs k =? u)
 
 unfoldable pub kind_is : List ℕ → ℕ → ℕ → Bool
 kind_is n k c = c <? components & kind_at n c =? k

@@ -1,12 +1,13 @@
 -- What the test of the arrays themselves tells, and when it passes.
-use Rattle.std.specs.Prelude.{true, List, ◌≢◌, ◌≡◌, refl, ◌*◌, ◌+◌, ◌<◌, ◌^◌, ◌≤◌, ℕ}
-use Rattle.std.proofs.Common.{◌∙◌, sym, arith}
+use Rattle.std.specs.Prelude.{IsSome, None, Option as Found, Some, true, List, ◌≢◌, ◌≡◌, refl, ◌*◌, ◌+◌, ◌<◌, ◌^◌, ◌≤◌, ℕ, length, position}
+use Rattle.std.proofs.Common.{◌∙◌, nat_eq, sym, arith}
 use Rattle.std.proofs.Math.Path.{ap, fun_ext}
 use Rattle.book.specs.Changes.{HasRoom}
-use Rattle.book.specs.Layout.{kind_at, members_at, slots_of, usable_at}
+use Rattle.book.specs.Layout.{kind_at, members_at, slot_list, slots_of, usable_at}
 use Rattle.book.specs.Plain.{members_low, place_of, proper, proper_at, proper_if, sets_low, slot, slot_apart, slot_low, slots_apart}
 use Rattle.book.specs.Plain.{specified_at, specs_of}
 use Rattle.book.specs.ReadLaws.{has_version_plain, specified_plain}
+use Rattle.book.specs.Readers.{position_lost, position_there}
 use Rattle.book.specs.SlotLaws.{Distinct, slots_full}
 use Rattle.model.specs.Book.{components, specified, versions}
 use Rattle.model.specs.Limits.{how_many}
@@ -76,8 +77,17 @@ pub record FreePlace (n : List ℕ) (c i : ℕ) : Type 0 where
   pub free : versions ≤ slots_of n c slot
   pub place< : i < 256
 
-pub free_found : (n : List ℕ) (c j : ℕ) {x : ℕ} → c < components → j < 8 → x ≡ slots_of n c j → versions ≤ x → FreePlace n c (c * 8 + j)
-free_found n c j c< l e h = record { slot = j; slot< = l; is = refl; free = rw (sym e) h; place< = omega arith }
+module _ (s n : List ℕ) (c : ℕ) (t : HasRoom s n c) (l : length (slot_list n c) ≡ 8) where
+  pub free_found : (j : ℕ) {r : Found ℕ} → r ≡ position (λ w. nat_eq w 64) (slot_list n c) → r ≡ Some j → FreePlace n c (c * 8 + j)
+  free_found j e q =
+      let z = position_there n c 64 l e j q in
+      let c< = t.component< in
+      record { slot = j; slot< = z.0; is = refl; free = omega (arith, z.1); place< = omega (arith, z.0, c<) }
 
-pub free_lost : (s n : List ℕ) (c j : ℕ) → HasRoom s n c → 8 ≤ j → ((k : ℕ) → k < j → versions ≤ slots_of n c k → ⊥) → ⊥
-free_lost s n c j t h nay = free-slot s n c t.is_proper t.component< t.is_specified t.is_room (λ k l. nay k (omega arith))
+  pub free_there : (r : Found ℕ) → r ≡ position (λ w. nat_eq w 64) (slot_list n c) → IsSome r
+  free_there (Some j) e = refl
+  free_there None e = absurd (free-slot s n c t.is_proper t.component< t.is_specified t.is_room
+      (λ k h free. position_lost n c 64 l e refl k h (omega (arith, free, low k h))))
+    where
+      low : (k : ℕ) → k < 8 → slots_of n c k ≤ versions
+      low = (proper_component s n c t.is_proper t.component< (specified_kind n c (sym (specified_plain s n c) ∙ t.is_specified))).low

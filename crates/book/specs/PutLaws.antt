@@ -1,18 +1,24 @@
 -- A version put in, or taken out.
 use Rattle.std.specs.Prelude.{IsSome, Option as Found, Some}
-use Rattle.std.specs.Prelude.{false, true, List, ◌≢◌, ◌≡◌, refl, ◌*◌, ◌+◌, ◌<◌, ◌^◌, ◌≤◌, suc, zero, ℕ, get_or, length, set}
-use Rattle.std.proofs.Common.{inl, inr, ◌∙◌, le_antisymm, le_refl, not-suc-le-zero, add-one, arith, pow_pos, get_or-set_other, Fits}
+use Rattle.std.specs.Prelude.{false, true, List, ◌≢◌, ◌≡◌, refl, ◌*◌, ◌+◌, ◌-◌, ◌<◌, ◌^◌, ◌≤◌, ℕ, get_or, length, set}
+use Rattle.std.proofs.Common.{inl, inr, ◌∙◌, le_refl, arith, pow_pos, get_or-set_other, Fits}
 use Rattle.std.proofs.Math.Option.{none, some}
 use Rattle.std.proofs.Math.Path.{ap, fun_ext, sym}
 use Rattle.std.proofs.Math.ListN.{length-set}
 use Rattle.std.proofs.Math.Seq.{get_or-set_same}
+use Rattle.std.proofs.Common.{rules}
+use lib.Seq.{paste}
+use Rattle.std.specs.List.{between}
+use Rattle.std.proofs.lemmas.List.{places}
+use Rattle.std.proofs.lemmas.List.Edits.{length-paste}
 use Rattle.book.specs.Changes.{Holds, HoldsVersion, TakesVersion, row_of, with_modvar, with_sysvar, with_undefined}
-use Rattle.book.specs.Layout.{implementation_at, kind_at, member_version_at, members_at, requires_at, slots_of, version_at}
+use Rattle.book.specs.Layout.{implementation_at, kind_at, member_version_at, members_at, requires_at, row_in, slots_of, version_at}
 use Rattle.book.specs.Plain.{byte, component_set, composition_at, facility_set, kind_is, modules_of, place_of, plain_of, proper}
 use Rattle.book.specs.Plain.{slot, specified_at, specs_of, systems_of}
 use Rattle.book.specs.Proper.{FreePlace, ProperFacts, facts_proper, proper_component, specified_kind}
 use Rattle.book.specs.ReadLaws.{book_ext, has_version_plain, is_module_plain, is_system_plain, place-limit, specified_plain}
-use Rattle.book.specs.Readers.{byte_small, kind_at_lem, place_below, place_there, version_is}
+use Rattle.book.specs.KindLaws.{kind_at_lem}
+use Rattle.book.specs.Readers.{byte_small, place_below, place_there, version_is}
 use Rattle.book.specs.Same.{AtPlace, heads, other_components, other_places, other_versions, place-slot, proper_rest}
 use Rattle.book.specs.SlotLaws.{distinct_put, distinct-take, only_no, slot_put, slot-take}
 use Rattle.book.specs.Writers.{change_none, pair_modules, pair_specs, pair_systems}
@@ -22,7 +28,8 @@ use Rattle.model.specs.Maps.{Map, change, is_some, only_if, option_map, put}
 use Rattle.sets.specs.Answered.{answered}
 use Rattle.sets.specs.SetLaws.{bit_below, bit_limit, bit_zero}
 use Rattle.sets.specs.Sets.{Set, bit}
-use Rattle.sets.specs.TestLaws.{=?-not, =?-out, and_no, and_r, bool?, clash, fails, if-true, not_in, same?}
+use Rattle.sets.specs.Tests.{◌<?◌}
+use Rattle.sets.specs.TestLaws.{<?_no, <?_out, =?-not, =?-out, and_no, and_r, bool?, clash, fails, if-true, not_in, same?}
 use Rattle.model_laws.specs.Accepted.{not_defined}
 use Rattle.model_laws.specs.MapLaws.{is_some_no, option_map-some}
 use Rattle.std.specs.Int.{w64, w8}
@@ -30,54 +37,66 @@ use Rattle.sets.specs.Sets as sets
 
 -- ---- the row of a composition
 
--- the first k of row v of rows, stored one after the other at the place i
-unfoldable pub row_in : List ℕ → ℕ → List ℕ → ℕ → ℕ → List ℕ
-row_in n i rows v zero = n
-row_in n i rows v (suc k) = set (row_in n i rows v k) (576 + (i * 32 + k)) (get_or rows (v * 32 + k) 0)
+-- k numbers that are written from a on
+module _ (n zs : List ℕ) (a k x : ℕ) (h : a ≤ length n) (e : length zs ≡ k) where
+  paste_before : x < a → get_or (paste n a zs k) x 0 ≡ get_or n x 0
+  paste_before l = search (rules, places)
 
-pub row_none : (n : List ℕ) (i : ℕ) (rows : List ℕ) (v : ℕ) → n ≡ row_in n i rows v 0
-unfolding row_in
-row_none n i rows v = refl
+  pub paste_within : (m : ℕ) → m < k → x ≡ a + m → get_or (paste n a zs k) x 0 ≡ get_or zs m 0
+  paste_within m l ex = search (rules, places)
 
-pub row_more : (n : List ℕ) (i : ℕ) (rows : List ℕ) (v k : ℕ) {x : List ℕ} → x ≡ row_in n i rows v k
-    → set x (576 + (i * 32 + k)) (get_or rows (v * 32 + k) 0) ≡ row_in n i rows v (k + 1)
-unfolding row_in
-row_more n i rows v k e = rw (add-one, e)
+  paste_after : a + k ≤ x → get_or (paste n a zs k) x 0 ≡ get_or n x 0
+  paste_after l = search (rules, places)
 
-pub row_end : (n : List ℕ) (i : ℕ) (rows : List ℕ) (v k : ℕ) {x : List ℕ} → k ≤ 32 → 32 ≤ k → x ≡ row_in n i rows v k → x ≡ row_in n i rows v 32
-row_end n i rows v k h₁ h₂ e = e ∙ ap (row_in n i rows v) (le_antisymm h₁ h₂)
+  pub paste_other : ((m : ℕ) → m < k → x ≢ a + m) → get_or (paste n a zs k) x 0 ≡ get_or n x 0
+  paste_other ne = elim (bool? (x <? a)) [
+    | inl t ↦ paste_before (<?_out _ _ t)
+    | inr f ↦ elim (bool? (x <? a + k)) [
+      | inl u ↦ absurd (ne (x - a) (omega (arith, <?_out _ _ u, <?_no _ _ f)) (omega (arith, <?_no _ _ f)))
+      | inr u ↦ paste_after (<?_no _ _ u)
+    ]
+  ]
 
-pub row_length : (n : List ℕ) (i : ℕ) (rows : List ℕ) (v k : ℕ) → length (row_in n i rows v k) ≡ length n
-unfolding row_in
-row_length n i rows v zero = refl
-row_length n i rows v (suc k) = simp length-set (row_length n i rows v k)
+module _ (n : List ℕ) (i : ℕ) (rows : List ℕ) (v : ℕ) (ln : length n ≡ 8768) (hi : i < 256) (lr : length rows ≡ 2048) (hv : v < 64) where
+  start : ℕ
+  start = 576 + i * 32
 
-pub row_other : (n : List ℕ) (i : ℕ) (rows : List ℕ) (v k x : ℕ) → k ≤ 32 → ((m : ℕ) → m < 32 → x ≢ 576 + (i * 32 + m))
-    → get_or (row_in n i rows v k) x 0 ≡ get_or n x 0
-unfolding row_in
-row_other n i rows v zero x h ne = refl
-row_other n i rows v (suc k) x h ne =
-    get_or-set_other (row_in n i rows v k) (576 + (i * 32 + k)) x (get_or rows (v * 32 + k) 0) 0 (ne k h) ∙ row_other n i rows v k x (omega arith) ne
+  row : List ℕ
+  row = between (v * 32) (v * 32 + 32) rows
 
-pub row_same : (n : List ℕ) (i : ℕ) (rows : List ℕ) (v k m : ℕ) → length n ≡ 8768 → i < 256 → k ≤ 32 → m < k
-    → member_version_at (row_in n i rows v k) i m ≡ get_or rows (v * 32 + m) 0
-unfolding row_in
-row_same n i rows v zero m ln hi h l = absurd (not-suc-le-zero l)
-row_same n i rows v (suc k) m ln hi h l = elim (same? m k) [
-  | inl e ↦ rw e (get_or-set_same (row_in n i rows v k) (576 + (i * 32 + k)) (get_or rows (v * 32 + k) 0) 0 (omega (arith, row_length n i rows v k)))
-  | inr ne ↦ get_or-set_other (row_in n i rows v k) (576 + (i * 32 + k)) (576 + (i * 32 + m)) (get_or rows (v * 32 + k) 0) 0 (omega arith)
-      ∙ row_same n i rows v k m ln hi (omega arith) (omega arith)
-]
+  start< : start + 32 ≤ length n
+  unfolding start
+  start< = omega (arith, ln, hi)
+
+  row_size : length row ≡ 32
+  unfolding row
+  row_size = search (rules, places)
+
+  row_holds : (m : ℕ) → m < 32 → get_or row m 0 ≡ get_or rows (v * 32 + m) 0
+  unfolding row
+  row_holds m l = search (rules, places)
+
+  pub row_length : length (row_in n i rows v) ≡ length n
+  unfolding row_in start row
+  row_length = length-paste n start row 32 start< (omega (arith, row_size))
+
+  pub row_other : (x : ℕ) → ((m : ℕ) → m < 32 → x ≢ 576 + (i * 32 + m)) → get_or (row_in n i rows v) x 0 ≡ get_or n x 0
+  unfolding row_in start row
+  row_other x ne = paste_other n row start 32 x (omega (arith, start<)) row_size (λ m l q. ne m l (omega (arith, q)))
+
+  pub row_same : (m : ℕ) → m < 32 → member_version_at (row_in n i rows v) i m ≡ get_or rows (v * 32 + m) 0
+  unfolding row_in start row
+  row_same m l = paste_within n row start 32 (576 + (i * 32 + m)) (omega (arith, start<)) row_size m l (omega arith) ∙ row_holds m l
 
 -- a row that is stored at the place i with its members
-pub row_composition : (s n : List ℕ) (i ms : ℕ) (rows : List ℕ) (v : ℕ) → length n ≡ 8768 → i < 256 → members_at s i ≡ ms → ms < 2 ^ 32
-    → composition_at s (row_in n i rows v 32) i ≡ row_of ms rows v
+pub row_composition : (s n : List ℕ) (i ms : ℕ) (rows : List ℕ) (v : ℕ) → length n ≡ 8768 → i < 256 → length rows ≡ 2048 → v < 64
+    → members_at s i ≡ ms → ms < 2 ^ 32 → composition_at s (row_in n i rows v) i ≡ row_of ms rows v
 unfolding composition_at row_of component_set
-row_composition s n i ms rows v ln hi e h = fun_ext (λ m.
-    ap (λ (x : ℕ). only_if (sets.below 32 (bit x) m) (member_version_at (row_in n i rows v 32) i m)) e
-    ∙ ap (λ (a : Set). only_if (a m) (member_version_at (row_in n i rows v 32) i m)) (sym (bit_below 32 ms h))
+row_composition s n i ms rows v ln hi lr hv e h = fun_ext (λ m.
+    ap (λ (x : ℕ). only_if (sets.below 32 (bit x) m) (member_version_at (row_in n i rows v) i m)) e
+    ∙ ap (λ (a : Set). only_if (a m) (member_version_at (row_in n i rows v) i m)) (sym (bit_below 32 ms h))
     ∙ elim (bool? (bit ms m)) [
-      | inl t ↦ ap (only_if (bit ms m)) (row_same n i rows v 32 m ln hi (le_refl 32) (bit_limit 32 ms m h t))
+      | inl t ↦ ap (only_if (bit ms m)) (row_same n i rows v ln hi lr hv m (bit_limit 32 ms m h t))
       | inr t ↦ only_no _ _ t ∙ sym (only_no _ _ t)
     ])
 
@@ -165,10 +184,6 @@ pub kind_of_module : (s n : List ℕ) (c : ℕ) → is_module (modules_of n) c �
 unfolding kind_is
 kind_of_module s n c t = =?-out _ _ (and_r _ _ (sym (is_module_plain s n c) ∙ t))
 
-pub kind_of_system : (s n : List ℕ) (c : ℕ) → is_system (systems_of s n) c ≡ true → kind_at n c ≡ 3
-unfolding kind_is
-kind_of_system s n c t = =?-out _ _ (and_r _ _ (sym (is_system_plain s n c) ∙ t))
-
 module _ (s n : List ℕ) (c v i : ℕ) (ls : length s ≡ 576) (ln : length n ≡ 8768) (t : TakesVersion s n c v) (f : FreePlace n c i) where
   i< : i < 256
   i< = f.place<
@@ -237,22 +252,26 @@ module _ (s n : List ℕ) (c v i : ℕ) (ls : length s ≡ 576) (ln : length n �
     }
 
   -- with a composition and empty requirements, of a system
-  module _ (ms : ℕ) (rows : List ℕ) {n₄ : List ℕ} (ms< : ms < 2 ^ 32) (isY : is_system (systems_of s n) c ≡ true) (e₄ : n₄ ≡ row_in (set n (64 + i) v) i rows v 32) where
+  module _ (ms : ℕ) (rows : List ℕ) {n₄ : List ℕ} (lr : length rows ≡ 2048) (ms< : ms < 2 ^ 32)
+      (isY : is_system (systems_of s n) c ≡ true) (e₄ : n₄ ≡ row_in (set n (64 + i) v) i rows v) where
     abbrev s₃ : List ℕ
     s₃ = set (set s (64 + i) 0) (320 + i) ms
 
     abbrev n₃ : List ℕ
-    n₃ = row_in (set n (64 + i) v) i rows v 32
+    n₃ = row_in (set n (64 + i) v) i rows v
+
+    sized : length (set n (64 + i) v) ≡ 8768
+    sized = length-set n (64 + i) v ∙ ln
 
     sysvar_confined : AtPlace s n s₃ n₃ i
     sysvar_confined = record {
       sets = λ y a b. get_or-set_other (set s (64 + i) 0) (320 + i) y ms 0 b ∙ get_or-set_other s (64 + i) y 0 0 a;
-      numbers = λ y a b m. row_other (set n (64 + i) v) i rows v 32 y (le_refl 32) m ∙ get_or-set_other n (64 + i) y v 0 a;
+      numbers = λ y a b m. row_other (set n (64 + i) v) i rows v sized f.place< lr t.version< y m ∙ get_or-set_other n (64 + i) y v 0 a;
     }
 
     sysvar_here : version_at n₃ i ≡ v
     sysvar_here = let l = f.place< in
-        row_other (set n (64 + i) v) i rows v 32 (64 + i) (le_refl 32) (λ m h. omega arith) ∙ get_or-set_same n (64 + i) v 0 (omega arith)
+        row_other (set n (64 + i) v) i rows v sized f.place< lr t.version< (64 + i) (λ m h. omega arith) ∙ get_or-set_same n (64 + i) v 0 (omega arith)
 
     members_here : members_at s₃ i ≡ ms
     members_here = let l = f.place< in get_or-set_same (set s (64 + i) 0) (320 + i) ms 0 (omega (arith, length-set s (64 + i) 0))
@@ -272,7 +291,7 @@ module _ (s n : List ℕ) (c v i : ℕ) (ls : length s ≡ 576) (ln : length n �
           ∙ change_none _ c _ (no_module s n c (fails _ (λ m. clash isY (module_or_system s n c m)))))
           (put_systems s n s₃ n₃ c v i t f sysvar_confined sysvar_here
           ∙ ap (λ (a : Map ℕ). change c (with_composition v (some a)) (systems_of s n))
-          (row_composition s₃ (set n (64 + i) v) i ms rows v (length-set n (64 + i) v ∙ ln) f.place< members_here ms<));
+          (row_composition s₃ (set n (64 + i) v) i ms rows v sized f.place< lr t.version< members_here ms<));
       is_proper = put_proper s n s₃ n₃ c v i t f sysvar_confined sysvar_here (λ e. rw members_here ms<);
     }
 

@@ -5,7 +5,7 @@ use Rattle.std.proofs.Math.Option.{Option, none, some}
 use Rattle.std.proofs.Common.{◌∙◌, ap₂, le_refl, le_trans, add-one, arith}
 use Rattle.std.proofs.Math.Path.{ap, fun_ext, refl, sym}
 use Prim.Native.Nat.{◌+◌, ◌<◌, ◌≤◌, suc, zero, zero-le, ℕ}
-use Rattle.book.specs.Plain.{slot}
+use Rattle.book.specs.Plain.{among_first, slot}
 use Rattle.model.specs.Book.{versions}
 use Rattle.model.specs.Lists.{first_from}
 use Rattle.model.specs.Maps.{else_try, is_some, only_if, put}
@@ -14,7 +14,7 @@ use Rattle.sets.specs.Sets.{Set, bit, with}
 use Rattle.sets.specs.TestLaws.{<?_in, <?_no, <?_out, =?-in, =?-no, =?-not, =?-out, =?-same, and-false, and_in, and_l, and_r}
 use Rattle.sets.specs.TestLaws.{and_swap, and-true, any_in, any_out, bool?, clash, count_mono, count_strict, fails, if-false}
 use Rattle.sets.specs.TestLaws.{if-true, iff→≡, or-false, same?}
-use Rattle.sets.specs.Tests.{◌&◌, ◌<?◌, ◌=?◌, ◌or◌, any, count, if?◌then◌else◌}
+use Rattle.sets.specs.Tests.{◌<?◌, ◌=?◌, ◌or◌, any, count, if?◌then◌else◌}
 use Rattle.model_laws.specs.ListLaws.{first_from_least, first_from-none, first_from-some, only_none, only_some}
 use Rattle.model_laws.specs.MapLaws.{is_some_in, is_some_out, no_some, option?}
 
@@ -181,9 +181,6 @@ module _ (vs : ℕ → ℕ) (one : Distinct vs) (full : (j : ℕ) → j < 8 → 
 
 -- ---- the versions that stand in the first j slots, as the loop over them finds them
 
-unfoldable pub among_first : ℕ → (ℕ → ℕ) → Set
-among_first j vs u = u <? versions & any j (λ k. vs k =? u)
-
 pub among_none : (vs : ℕ → ℕ) → bit 0 ≡ among_first 0 vs
 unfolding among_first any
 among_none vs = fun_ext (λ u. bit_zero u ∙ sym (and_swap _ _ ∙ and-false _ _ refl))
@@ -214,6 +211,10 @@ among-all vs u = iff→≡ _ _
     ])
     (λ t. (let y = is_some_out _ t in let z = slot-some vs u y.0 y.1 in
     and_in _ _ (<?_in _ _ z.2) (any_in 8 _ y.0 z.0 (=?-in _ _ z.1))))
+
+-- the slots of a component, as they stand in a list
+pub among_same : (vs ws : ℕ → ℕ) (u : ℕ) → ((j : ℕ) → j < 8 → vs j ≡ ws j) → among_first 8 vs u ≡ is_some (slot ws u)
+among_same vs ws u h = among-all vs u ∙ ap is_some (slot_same vs ws u (λ j l. ap (λ (x : ℕ). x =? u) (h j l)))
 
 pub distinct_same : (vs ws : ℕ → ℕ) → ((j : ℕ) → j < 8 → ws j ≡ vs j) → Distinct vs → Distinct ws
 unfolding Distinct

@@ -1,20 +1,19 @@
 -- B4: what each component reaches, found one middle after another.
-use Rattle.std.specs.Prelude.{Bool, false, not, List, ◌⊎◌, ◌≡◌, refl, get_or, length, set}
+use Rattle.std.specs.Prelude.{Bool, false, not, List, ◌⊎◌, ◌≡◌, get_or, length}
 use Rattle.std.proofs.Math.Bool.{true}
 use Rattle.std.proofs.Math.Logic.{inl, inr}
-use Rattle.std.proofs.Common.{◌∙◌, ap₂, subst, sym, le_antisymm, le_refl, not-suc-le-zero, arith, get_or-set_other, get_or-set_same}
+use Rattle.std.proofs.Common.{◌∙◌, ap₂, subst, sym, le_antisymm, le_refl, not-suc-le-zero, arith}
 use Rattle.std.proofs.Math.Path.{ap, fun_ext}
 use Prim.Native.Nat.{◌+◌, ◌<◌, ◌≤◌, suc, zero, ℕ}
 use Rattle.std.proofs.Math.Numerals.{add-one}
-use Rattle.std.proofs.Math.ListN.{length-set}
 use Rattle.book.specs.Plain.{systems_of}
 use Rattle.book.specs.ReadLaws.{system_limit, usable_limit}
 use Rattle.model.specs.Book.{Systems, components, is_system, usable}
-use Rattle.model.specs.Rules.{B4, each_system, r, reaches}
-use Rattle.book_rules.specs.RuleLaws.{if_system, system_skip, system_test}
+use Rattle.model.specs.Rules.{r, reaches}
+use Rattle.book_rules.specs.RuleLaws.{imp_skip, imp_test}
 use Rattle.sets.specs.Sets.{Set, bit, union}
 use Rattle.sets.specs.TestLaws.{and-false, and_in, and_l, and_r, and-true, iff→≡, or-false, or_l, or_out, or_r, or_swap, same?}
-use Rattle.sets.specs.Tests.{◌&◌, ◌or◌, all, ~◌}
+use Rattle.sets.specs.Tests.{◌&◌, ◌or◌, ◌⇒◌, ~◌}
 use Rattle.model_laws.specs.Heights.{usable_system}
 use Rattle.model_laws.specs.Notions.{Reaches, direct, through}
 use Rattle.model_laws.specs.Reach.{reaches_all, reaches_sound}
@@ -81,11 +80,6 @@ pub record Rows (Y : Systems) (k : ℕ) (t : List ℕ) : Type 0 where
   pub size : length t ≡ 32
   pub row : (c : ℕ) → c < 32 → bit (get_or t c 0) ≡ via Y k c
 
--- the first c rows of out
-pub record Joined (Y : Systems) (k c : ℕ) (out : List ℕ) : Type 0 where
-  pub size : length out ≡ 32
-  pub row : (d : ℕ) → d < c → bit (get_or out d 0) ≡ via Y k d
-
 unfoldable pub join_of : Set → ℕ → Set → Set
 join_of a k b d = a d or (a k & b d)
 
@@ -98,32 +92,17 @@ unfolding join_of
 join_no a k row et e = fun_ext (λ d. sym (or_swap _ _ ∙ or-false _ _ (and-false _ _ (sym et ∙ e))))
 
 module _ (Y : Systems) where
-  pub joined_start : (k : ℕ) (out : List ℕ) → length out ≡ 32 → Joined Y k 0 out
-  joined_start k out l = record { size = l; row = λ d h. absurd (not-suc-le-zero h) }
-
-  pub joined_turn : (k c : ℕ) (t out : List ℕ) (x : ℕ) → Rows Y k t → k < 32 → c < 32 → Joined Y (k + 1) c out
-      → bit x ≡ join_of (bit (get_or t c 0)) k (bit (get_or t k 0)) → Joined Y (k + 1) (c + 1) (set out c x)
-  unfolding join_of via
-  joined_turn k c t out x r k< c< j ex = record {
-    size = length-set out c x ∙ j.size;
-    row = λ d h. elim (same? d c) [
-      | inl e ↦ rw e (ap bit (get_or-set_same out c x 0 (omega (arith, j.size))) ∙ ex ∙ fun_ext (λ f. rw add-one
-          (ap₂ ◌or◌ (ap (λ (a : Set). a f) (r.row c c<)) (ap₂ ◌&◌ (ap (λ (a : Set). a k) (r.row c c<)) (ap (λ (a : Set). a f) (r.row k k<))))))
-      | inr ne ↦ ap bit (get_or-set_other out c d x 0 ne) ∙ j.row d (omega arith)
-    ];
-  }
-
-  pub joined_end : (k c : ℕ) (out : List ℕ) → 32 ≤ c → Joined Y k c out → Rows Y k out
-  joined_end k c out h j = record { size = j.size; row = λ d l. j.row d (omega arith) }
-
-  pub rows_turn : (c : ℕ) (out : List ℕ) (x : ℕ) → c < 32 → Joined Y 0 c out → bit x ≡ usable Y c → Joined Y 0 (c + 1) (set out c x)
+  pub rows_start : (out : List ℕ) → length out ≡ 32 → ((c : ℕ) → c < 32 → bit (get_or out c 0) ≡ usable Y c) → Rows Y 0 out
   unfolding via
-  rows_turn c out x c< j ex = record {
-    size = length-set out c x ∙ j.size;
-    row = λ d h. elim (same? d c) [
-      | inl e ↦ rw e (ap bit (get_or-set_same out c x 0 (omega (arith, j.size))) ∙ ex)
-      | inr ne ↦ ap bit (get_or-set_other out c d x 0 ne) ∙ j.row d (omega arith)
-    ];
+  rows_start out l row = record { size = l; row = row }
+
+  pub rows_turn : (k : ℕ) (t out : List ℕ) → Rows Y k t → k < 32 → length out ≡ 32
+      → ((c : ℕ) → c < 32 → bit (get_or out c 0) ≡ join_of (bit (get_or t c 0)) k (bit (get_or t k 0))) → Rows Y (k + 1) out
+  unfolding join_of via
+  rows_turn k t out r k< l row = record {
+    size = l;
+    row = λ c c<. row c c< ∙ fun_ext (λ f. rw add-one
+        (ap₂ ◌or◌ (ap (λ (a : Set). a f) (r.row c c<)) (ap₂ ◌&◌ (ap (λ (a : Set). a k) (r.row c c<)) (ap (λ (a : Set). a f) (r.row k k<)))));
   }
 
   pub rows_end : (k : ℕ) (t : List ℕ) → k ≤ 32 → 32 ≤ k → Rows Y k t → Rows Y 32 t
@@ -134,20 +113,12 @@ module _ (Y : Systems) where
 unfoldable pub self_free : Systems → ℕ → Bool
 self_free Y s = ~ reaches Y s s
 
-pub self_is : (s n : List ℕ) (c : ℕ) (t : List ℕ) {r : Bool} → Rows (systems_of s n) 32 t → c < 32 → r ≡ bit (get_or t c 0) c → not r ≡ self_free (systems_of s n) c
-unfolding self_free ~◌
-self_is s n c t {r} rows c< e = ap not (e ∙ ap (λ (a : Set). a c) (rows.row c c<)
-    ∙ via_reaches (systems_of s n) (λ a b u. (system_limit s n a (usable_system _ a b u), usable_limit s n a b u)) c c)
+module _ (s n : List ℕ) (c : ℕ) (t : List ℕ) (rows : Rows (systems_of s n) 32 t) (c< : c < 32)
+    {y : Bool} (ey : y ≡ is_system (systems_of s n) c) where
+  pub self_test : {r : Bool} → y ≡ true → r ≡ bit (get_or t c 0) c → not r ≡ (is_system (systems_of s n) c ⇒ self_free (systems_of s n) c)
+  unfolding self_free ~◌
+  self_test {r} e er = imp_test _ _ (sym ey ∙ e) (ap not (er ∙ ap (λ (a : Set). a c) (rows.row c c<)
+      ∙ via_reaches (systems_of s n) (λ a b u. (system_limit s n a (usable_system _ a b u), usable_limit s n a b u)) c c))
 
-pub B4_is : (Y : Systems) → all 32 (if_system Y (self_free Y)) ≡ B4 Y
-unfolding B4 each_system if_system self_free
-B4_is Y = refl
-
-module _ (s n : List ℕ) (c row : ℕ) (c< : c < 32) {y : Bool} (ey : y ≡ is_system (systems_of s n) c) where
-  pub self_test : {r : Bool} → y ≡ true → r ≡ bit row c → (t : List ℕ) → Rows (systems_of s n) 32 t → row ≡ get_or t c 0
-      → not r ≡ if_system (systems_of s n) (self_free (systems_of s n)) c
-  self_test e er t rows q = system_test (systems_of s n) (self_free (systems_of s n)) c ey e
-      (self_is s n c t rows c< (er ∙ ap (λ (x : ℕ). bit x c) q))
-
-  pub self_skip : y ≡ false → (t : List ℕ) → Rows (systems_of s n) 32 t → row ≡ get_or t c 0 → true ≡ if_system (systems_of s n) (self_free (systems_of s n)) c
-  self_skip e t rows q = system_skip (systems_of s n) (self_free (systems_of s n)) c ey e
+  pub self_skip : y ≡ false → not y ≡ (is_system (systems_of s n) c ⇒ self_free (systems_of s n) c)
+  self_skip e = ap not e ∙ imp_skip _ _ (sym ey ∙ e)

@@ -1,17 +1,19 @@
 -- A specification put in: first blank, then version by version.
-use Rattle.std.specs.Prelude.{Bool, false, true, List, ◌≢◌, ◌≡◌, ◌*◌, ◌+◌, ◌<◌, ◌≤◌, ℕ, get_or, length, set}
+use Rattle.std.specs.Prelude.{Bool, false, true, List, ◌≢◌, ◌≡◌, ◌*◌, ◌+◌, ◌<◌, ◌≤◌, ℕ, get_or, length, replicate, set}
 use Rattle.std.proofs.Math.Logic.{inl, inr}
 use Rattle.std.proofs.Math.Option.{none, some}
-use Rattle.std.proofs.Common.{◌∙◌, ap₂, le_antisymm, le_refl, not-suc-le-zero, arith, length-set, get_or-set_other, get_or-set_same, Fits}
+use Rattle.std.proofs.Common.{◌∙◌, ap₂, le_antisymm, le_refl, arith, length-set, get_or-set_other, get_or-set_same, Fits}
 use Rattle.std.proofs.Math.Path.{ap, fun_ext, refl, sym}
+use Rattle.std.proofs.lemmas.List.Edits.{length-paste}
+use lib.ListN.{get_or-replicate}
 use Rattle.book.specs.Changes.{Holds, TakesSpec, TakesVersion, blank, spec_from, with_spec, with_undefined}
-use Rattle.book.specs.Layout.{kind_at, slots_of, standard_at}
+use Rattle.book.specs.Layout.{Sized, freed, kind_at, slots_of, standard_at}
 use Rattle.book.specs.Plain.{facility_set, kind_is, modules_of, place_of, plain_of, slot, spec_at, specified_at, specs_of, systems_of}
 use Rattle.book.specs.Proper.{facts_proper}
-use Rattle.book.specs.PutLaws.{facilities-all}
+use Rattle.book.specs.PutLaws.{facilities-all, paste_other, paste_within}
 use Rattle.book.specs.ReadLaws.{book_ext, if_none, is_module_plain, is_some_only, is_system_plain, kind_specified, map-none}
 use Rattle.book.specs.ReadLaws.{specified_plain}
-use Rattle.book.specs.Readers.{not_kind, specified_at_lem}
+use Rattle.book.specs.KindLaws.{not_kind, specified_at_lem}
 use Rattle.book.specs.Same.{AtComponent, SameComponent, other_modules, other_specs, other_systems, others, proper_rest}
 use Rattle.book.specs.Same.{specs_ext}
 use Rattle.book.specs.SlotLaws.{Distinct, only_no, only_yes, slot_absent, slot_high}
@@ -20,6 +22,7 @@ use Rattle.model.specs.Book.{Book, Spec, components, has_version, is_defined, is
 use Rattle.model.specs.Commands.{with_version}
 use Rattle.model.specs.Limits.{how_many}
 use Rattle.model.specs.Maps.{Map, change, only_if, option_map, put}
+use Rattle.sets.specs.SetLaws.{bit_below}
 use Rattle.sets.specs.Sets.{Set, bit}
 use Rattle.sets.specs.TestLaws.{<?_in, <?_no, <?_out, and-false, and_in, and_no, and_r, bool?, clash, count_strict, fails, iff→≡}
 use Rattle.sets.specs.TestLaws.{or-false, same?}
@@ -29,59 +32,56 @@ use Rattle.model_laws.specs.MapLaws.{is_some_in, put_other, put_same}
 use Rattle.std.specs.Int.{w64}
 use Rattle.sets.specs.Sets as sets
 
--- the first j slots of c are free
-pub record Cleared (n₀ : List ℕ) (c j : ℕ) (n : List ℕ) : Type 0 where
-  pub size : length n ≡ 8768
-  pub others : (x : ℕ) → ((k : ℕ) → k < 8 → x ≢ 64 + (c * 8 + k)) → get_or n x 0 ≡ get_or n₀ x 0
-  pub free : (k : ℕ) → k < j → slots_of n c k ≡ versions
+-- the slots of c are free
+module _ (n : List ℕ) (c : ℕ) (c< : c < components) (ln : length n ≡ 8768) where
+  low : 64 + c * 8 ≤ length n
+  low = omega (arith, ln, c<)
 
-module _ (n₀ : List ℕ) (c : ℕ) (c< : c < components) where
-  pub cleared_start : length n₀ ≡ 8768 → Cleared n₀ c 0 n₀
-  cleared_start l = record { size = l; others = λ x h. refl; free = λ k h. absurd (not-suc-le-zero h) }
+  freed_size : length (freed n c) ≡ 8768
+  unfolding freed
+  freed_size = length-paste n (64 + c * 8) (replicate 8 64) 8 (omega (arith, ln, c<)) (le_refl 8) ∙ ln
 
-  pub cleared_turn : (j : ℕ) (n : List ℕ) → j < 8 → Cleared n₀ c j n → Cleared n₀ c (j + 1) (set n (64 + (c * 8 + j)) 64)
-  cleared_turn j n j< done = record {
-    size = length-set n (64 + (c * 8 + j)) 64 ∙ done.size;
-    others = λ x h. get_or-set_other n (64 + (c * 8 + j)) x 64 0 (h j j<) ∙ done.others x h;
-    free = λ k h. elim (same? k j) [
-      | inl e ↦ rw e (get_or-set_same n (64 + (c * 8 + j)) 64 0 (omega (arith, done.size)))
-      | inr ne ↦ get_or-set_other n (64 + (c * 8 + j)) (64 + (c * 8 + k)) 64 0 (omega arith) ∙ done.free k (omega arith)
-    ];
-  }
+  freed_other : (x : ℕ) → ((k : ℕ) → k < 8 → x ≢ 64 + (c * 8 + k)) → get_or (freed n c) x 0 ≡ get_or n x 0
+  unfolding freed
+  freed_other x ne = paste_other n (replicate 8 64) (64 + c * 8) 8 x low refl (λ m l q. ne m l (omega (arith, q)))
 
-module _ (s n : List ℕ) (c q std : ℕ) (ls : length s ≡ 576) (t : TakesSpec s n c) (q< : Fits w64 q) (n' : List ℕ) (j : ℕ) (j≥ : 8 ≤ j) (done : Cleared n c j n') where
+  freed_slot : (k : ℕ) → k < 8 → slots_of (freed n c) c k ≡ versions
+  unfolding freed
+  freed_slot k l = paste_within n (replicate 8 64) (64 + c * 8) 8 (64 + (c * 8 + k)) low refl k l (omega arith) ∙ get_or-replicate 8 k 64 0 l
+
+module _ (s n : List ℕ) (c q std : ℕ) (sized : Sized s n) (t : TakesSpec s n c) (q< : Fits w64 q) where
   abbrev s₁ : List ℕ
   s₁ = set s c q
 
+  abbrev clear : List ℕ
+  clear = freed n c
+
   abbrev n₁ : List ℕ
-  n₁ = set (set n' (32 + c) std) c 1
+  n₁ = set (set clear (32 + c) std) c 1
 
-  c< : c < components
-  c< = t.component<
-
-  size₁ : length (set n' (32 + c) std) ≡ 8768
-  size₁ = length-set n' (32 + c) std ∙ done.size
+  size₁ : length (set clear (32 + c) std) ≡ 8768
+  size₁ = length-set clear (32 + c) std ∙ freed_size n c t.component< sized.numbers
 
   kind₁ : kind_at n₁ c ≡ 1
-  kind₁ = get_or-set_same (set n' (32 + c) std) c 1 0 (omega (arith, size₁, t.component<))
+  kind₁ = get_or-set_same (set clear (32 + c) std) c 1 0 (omega (arith, size₁, t.component<))
 
   standard₁ : standard_at n₁ c ≡ std
   standard₁ = let l = t.component< in
-      get_or-set_other (set n' (32 + c) std) c (32 + c) 1 0 (omega arith) ∙ get_or-set_same n' (32 + c) std 0 (omega (arith, done.size))
+      get_or-set_other (set clear (32 + c) std) c (32 + c) 1 0 (omega arith) ∙ get_or-set_same clear (32 + c) std 0 (omega (arith, freed_size n c t.component< sized.numbers))
 
   slots₁ : (k : ℕ) → k < 8 → slots_of n₁ c k ≡ versions
   slots₁ k h = let l = t.component< in
-      get_or-set_other (set n' (32 + c) std) c (64 + (c * 8 + k)) 1 0 (omega arith) ∙ get_or-set_other n' (32 + c) (64 + (c * 8 + k)) std 0 (omega arith)
-      ∙ done.free k (omega arith)
+      get_or-set_other (set clear (32 + c) std) c (64 + (c * 8 + k)) 1 0 (omega arith) ∙ get_or-set_other clear (32 + c) (64 + (c * 8 + k)) std 0 (omega arith)
+      ∙ freed_slot n c t.component< sized.numbers k h
 
   at₁ : AtComponent s n s₁ n₁ c
   at₁ = record {
     sets = λ x a b d e. get_or-set_other s c x q 0 a;
-    numbers = λ x a b d e f. get_or-set_other (set n' (32 + c) std) c x 1 0 a ∙ get_or-set_other n' (32 + c) x std 0 b ∙ done.others x d;
+    numbers = λ x a b d e f. get_or-set_other (set clear (32 + c) std) c x 1 0 a ∙ get_or-set_other clear (32 + c) x std 0 b ∙ freed_other n c t.component< sized.numbers x d;
   }
 
   off : (d : ℕ) → d < 32 → d ≢ c → SameComponent s n s₁ n₁ d
-  off = others s n s₁ n₁ c c< at₁
+  off = others s n s₁ n₁ c t.component< at₁
 
   nowhere : (v : ℕ) → place_of n₁ c v ≡ none
   unfolding place_of
@@ -103,7 +103,7 @@ module _ (s n : List ℕ) (c q std : ℕ) (ls : length s ≡ 576) (t : TakesSpec
   unfolding with_spec blank specs_of spec_at modules_of systems_of
   blank_put = let l = t.component< in record {
     is = book_ext
-        (put_ext _ _ c _ (other_specs s n s₁ n₁ c off) (only_yes _ _ (specified_at_lem n₁ c c< (λ e. omega (arith, kind₁, e)))
+        (put_ext _ _ c _ (other_specs s n s₁ n₁ c off) (only_yes _ _ (specified_at_lem n₁ c t.component< (λ e. omega (arith, kind₁, e)))
         ∙ ap some (specs_ext (ap facility_set (get_or-set_same s c q 0 (omega arith)) ∙ facilities-all q q<.fits)
         (fun_ext (λ v. map-none _ _ (nowhere v))) standard₁)))
         (put_ext _ _ c none (other_modules s n s₁ n₁ c off) (only_no _ _ (no_kind 2 (omega arith))) ∙ put_none _ c (only_no _ _ (undefined 2 (omega arith))))
@@ -218,11 +218,12 @@ module _ (s₀ n₀ s₁ n₁ : List ℕ) (c std : ℕ) (p vs : Set) (given : Li
       spec_undefined s n s₀ n₀ c _ t (record { is = h.is ∙ over _; is_proper = h.is_proper }),
     )
 
-    pub spec_in_lem : (s' n' : List ℕ) {r : Bool} (q : Set) → r ≡ vs v → r ≡ true → q ≡ sets.below 64 (bit (get_or given v 0))
-        → Holds s' n' (with_undefined (plain_of s n) c v q) → Holds s' n' (with_spec (plain_of s₁ n₁) c (spec_from p vs given std (v + 1)))
+    pub spec_in_lem : (s' n' : List ℕ) {r : Bool} (x : ℕ) → r ≡ vs v → r ≡ true → x ≡ get_or given v 0 → Fits w64 x
+        → Holds s' n' (with_undefined (plain_of s n) c v (bit x)) → Holds s' n' (with_spec (plain_of s₁ n₁) c (spec_from p vs given std (v + 1)))
     unfolding facility_set
-    spec_in_lem s' n' q e y eq h' = record {
-      is = h'.is ∙ ap (λ (b : Book). with_undefined b c v q) h.is ∙ spec_hit (plain_of s₁ n₁) c std p vs given v q (sym e ∙ y) eq;
+    spec_in_lem s' n' x e y ex x< h' = record {
+      is = h'.is ∙ ap (λ (b : Book). with_undefined b c v (bit x)) h.is
+          ∙ spec_hit (plain_of s₁ n₁) c std p vs given v (bit x) (sym e ∙ y) (bit_below 64 x x<.fits ∙ ap (λ (z : ℕ). sets.below 64 (bit z)) ex);
       is_proper = h'.is_proper;
     }
 

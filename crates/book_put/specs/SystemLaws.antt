@@ -2,16 +2,16 @@
 use Rattle.std.specs.Prelude.{true, List, ◌≢◌, ◌≡◌, refl, ◌*◌, ◌+◌, ◌<◌, ◌^◌, ◌≤◌, ℕ, get_or, length, set}
 use Rattle.std.proofs.Math.Logic.{inl, inr}
 use Rattle.std.proofs.Math.Option.{Option, some}
-use Rattle.std.proofs.Common.{◌∙◌, le_refl, not-suc-le-zero, arith, length-set, get_or-set_other, get_or-set_same}
+use Rattle.std.proofs.Common.{◌∙◌, arith, get_or-set_other, get_or-set_same}
 use Rattle.std.proofs.Math.Path.{ap, fun_ext, sym}
 use Rattle.book.specs.Changes.{Holds, TakesDefinition, compositions_of, row_of, system_from, with_system}
 use Rattle.book.specs.DefineLaws.{defined_none, kept_specs, set_modules, set-proper, set_systems}
-use Rattle.book.specs.Layout.{kind_at, member_version_at, members_at, provides_at, requires_at, slots_of, standard_at, usable_at}
-use Rattle.book.specs.Plain.{component_set, composition_at, modules_of, place_of, plain_of, specified_at, specs_of, systems_of}
-use Rattle.book.specs.PutLaws.{no_module, row_length, row_other, row_same, row_in}
+use Rattle.book.specs.Layout.{Sized, kind_at, member_version_at, members_at, provides_at, requires_at, row_in, slots_of, standard_at, usable_at}
+use Rattle.book.specs.Plain.{among_first, component_set, composition_at, modules_of, place_of, plain_of, specified_at, specs_of, systems_of}
+use Rattle.book.specs.PutLaws.{no_module, row_other, row_same}
 use Rattle.book.specs.ReadLaws.{book_ext, has_version_plain, map_at, map-none, place-limit, specified_plain}
 use Rattle.book.specs.Same.{AtComponent, place-slot, system_ext}
-use Rattle.book.specs.SlotLaws.{among-all, among_first, only_no, only_yes}
+use Rattle.book.specs.SlotLaws.{among-all, only_no, only_yes}
 use Rattle.book.specs.Writers.{put_none}
 use Rattle.model.specs.Book.{System, components, has_version, versions}
 use Rattle.model.specs.Maps.{Map, is_some, only_if, option_map, put}
@@ -25,8 +25,6 @@ use Rattle.sets.specs.Sets as sets
 
 -- the compositions of the first j slots of c are stored
 pub record Composed (s₀ n₀ members rows : List ℕ) (c j : ℕ) (s n : List ℕ) : Type 0 where
-  pub size_sets : length s ≡ 576
-  pub size_numbers : length n ≡ 8768
   pub other_sets : (x : ℕ) → ((k : ℕ) → k < 8 → x ≢ 320 + (c * 8 + k)) → get_or s x 0 ≡ get_or s₀ x 0
   pub other_numbers : (x : ℕ) → ((k m : ℕ) → k < 8 → m < 32 → x ≢ 576 + ((c * 8 + k) * 32 + m)) → get_or n x 0 ≡ get_or n₀ x 0
   pub stored_members : (k : ℕ) → k < j → slots_of n₀ c k < versions → members_at s (c * 8 + k) ≡ get_or members (slots_of n₀ c k) 0
@@ -34,43 +32,29 @@ pub record Composed (s₀ n₀ members rows : List ℕ) (c j : ℕ) (s n : List 
       → member_version_at n (c * 8 + k) m ≡ get_or rows (slots_of n₀ c k * 32 + m) 0
 
 module _ (s₀ n₀ ms rows : List ℕ) (c : ℕ) (c< : c < components) where
-  pub composed_start : length s₀ ≡ 576 → length n₀ ≡ 8768 → Composed s₀ n₀ ms rows c 0 s₀ n₀
-  composed_start l l' = record {
-    size_sets = l;
-    size_numbers = l';
-    other_sets = λ x h. refl;
-    other_numbers = λ x h. refl;
-    stored_members = λ k h. absurd (not-suc-le-zero h);
-    stored_versions = λ k m h. absurd (not-suc-le-zero h);
-  }
-
   module _ (j : ℕ) (s n : List ℕ) (j< : j < 8) (done : Composed s₀ n₀ ms rows c j s n) {x : ℕ} (ex : x ≡ slots_of n c j) where
     same : slots_of n c j ≡ slots_of n₀ c j
     same = done.other_numbers (64 + (c * 8 + j)) (λ k m h l. omega arith)
 
-    pub composed_hit : {n₁ : List ℕ} → x < versions → n₁ ≡ row_in n (c * 8 + j) rows x 32
+    pub composed_hit : {n₁ : List ℕ} → Sized s n → length rows ≡ 2048 → x < versions → n₁ ≡ row_in n (c * 8 + j) rows x
         → Composed s₀ n₀ ms rows c (j + 1) (set s (320 + (c * 8 + j)) (get_or ms x 0)) n₁
-    composed_hit {n₁} l e = rw e (record {
-      size_sets = length-set s (320 + (c * 8 + j)) (get_or ms x 0) ∙ done.size_sets;
-      size_numbers = row_length n (c * 8 + j) rows x 32 ∙ done.size_numbers;
+    composed_hit {n₁} sized lr l e = rw e (record {
       other_sets = λ y h. get_or-set_other s (320 + (c * 8 + j)) y (get_or ms x 0) 0 (h j j<) ∙ done.other_sets y h;
-      other_numbers = λ y h. row_other n (c * 8 + j) rows x 32 y (le_refl 32) (λ m q. h j m j< q) ∙ done.other_numbers y h;
+      other_numbers = λ y h. row_other n (c * 8 + j) rows x sized.numbers (omega arith) lr l y (λ m q. h j m j< q) ∙ done.other_numbers y h;
       stored_members = λ k h lo. elim (same? k j) [
-        | inl q ↦ rw q (get_or-set_same s (320 + (c * 8 + j)) (get_or ms x 0) 0 (omega (arith, done.size_sets)) ∙ ap (λ (v : ℕ). get_or ms v 0) (ex ∙ same))
+        | inl q ↦ rw q (get_or-set_same s (320 + (c * 8 + j)) (get_or ms x 0) 0 (omega (arith, sized.sets)) ∙ ap (λ (v : ℕ). get_or ms v 0) (ex ∙ same))
         | inr ne ↦ get_or-set_other s (320 + (c * 8 + j)) (320 + (c * 8 + k)) (get_or ms x 0) 0 (omega arith) ∙ done.stored_members k (omega arith) lo
       ];
       stored_versions = λ k m h m< lo. elim (same? k j) [
-        | inl q ↦ rw q (row_same n (c * 8 + j) rows x 32 m done.size_numbers (omega arith) (le_refl 32) m<
+        | inl q ↦ rw q (row_same n (c * 8 + j) rows x sized.numbers (omega arith) lr l m m<
             ∙ ap (λ (v : ℕ). get_or rows (v * 32 + m) 0) (ex ∙ same))
-        | inr ne ↦ row_other n (c * 8 + j) rows x 32 (576 + ((c * 8 + k) * 32 + m)) (le_refl 32) (λ o q. omega arith)
+        | inr ne ↦ row_other n (c * 8 + j) rows x sized.numbers (omega arith) lr l (576 + ((c * 8 + k) * 32 + m)) (λ o q. omega arith)
             ∙ done.stored_versions k m (omega arith) m< lo
       ];
     })
 
     pub composed_miss : versions ≤ x → Composed s₀ n₀ ms rows c (j + 1) s n
     composed_miss l = record {
-      size_sets = done.size_sets;
-      size_numbers = done.size_numbers;
       other_sets = done.other_sets;
       other_numbers = done.other_numbers;
       stored_members = λ k h lo. elim (same? k j) [
@@ -84,8 +68,8 @@ module _ (s₀ n₀ ms rows : List ℕ) (c : ℕ) (c< : c < components) where
     }
 
 module _ (s n ms rows : List ℕ) (c us : ℕ) (t : TakesDefinition s n c) (us< : us < 2 ^ 32)
-    (ms< : (v : ℕ) → has_version (specs_of s n) c v ≡ true → get_or ms v 0 < 2 ^ 32) (s' n' : List ℕ) (j : ℕ) (j≥ : 8 ≤ j)
-    (done : Composed s n ms rows c j s' n') where
+    (ms< : (v : ℕ) → has_version (specs_of s n) c v ≡ true → get_or ms v 0 < 2 ^ 32) (s' n' : List ℕ) (sized : Sized s' n')
+    (j : ℕ) (j≥ : 8 ≤ j) (done : Composed s n ms rows c j s' n') where
   abbrev s₃ : List ℕ
   s₃ = set s' (32 + c) us
 
@@ -99,7 +83,7 @@ module _ (s n ms rows : List ℕ) (c us : ℕ) (t : TakesDefinition s n c) (us< 
   there = sym (specified_plain s n c) ∙ t.is_specified
 
   kind₃ : kind_at n₃ c ≡ 3
-  kind₃ = get_or-set_same n' c 3 0 (omega (arith, done.size_numbers, t.component<))
+  kind₃ = get_or-set_same n' c 3 0 (omega (arith, sized.numbers, t.component<))
 
   at₃ : AtComponent s n s₃ n₃ c
   at₃ = record {
@@ -122,7 +106,7 @@ module _ (s n ms rows : List ℕ) (c us : ℕ) (t : TakesDefinition s n c) (us< 
       get_or-set_other s' (32 + c) (64 + (c * 8 + k)) us 0 (omega arith) ∙ done.other_sets (64 + (c * 8 + k)) (λ a b. omega arith)
 
   usable₃ : usable_at s₃ c ≡ us
-  usable₃ = get_or-set_same s' (32 + c) us 0 (omega (arith, done.size_sets, t.component<))
+  usable₃ = get_or-set_same s' (32 + c) us 0 (omega (arith, sized.sets, t.component<))
 
   -- what stands in a slot that has a version
   members₃ : (k : ℕ) → k < 8 → slots_of n c k < versions → members_at s₃ (c * 8 + k) ≡ get_or ms (slots_of n c k) 0

@@ -1,24 +1,25 @@
 -- The rules B5 to B9 of one composition.
-use Rattle.std.specs.Prelude.{Bool, false, List, ◌≢◌, ◌≡◌, refl, ◌+◌, ◌<◌, ◌^◌, ◌≤◌, ℕ, eqb}
+use Rattle.std.specs.Prelude.{Bool, None, Some, false, List, ◌≢◌, ◌≡◌, refl, ◌+◌, ◌<◌, ◌^◌, ◌≤◌, ℕ, eqb}
 use Rattle.std.proofs.Math.Bool.{not, true}
 use Rattle.std.proofs.Math.Logic.{inl, inr}
-use Rattle.std.proofs.Math.Option.{Option, some}
+use Rattle.std.proofs.Math.Option.{Option}
 use Rattle.std.proofs.Common.{◌∙◌, not-suc-le-zero, arith, pow_pos}
 use Rattle.std.proofs.Math.Path.{ap, ap₂, fun_ext, sym}
-use borrow.Author.Tests.{eq-eqb, eqb-false, ne_eqb, not-false, not-true}
+use borrow.Author.Tests.{eqb-false, ne_eqb, not-false, not-true}
 use Rattle.book.specs.Plain.{specs_of, systems_of}
 use Rattle.book.specs.ReadLaws.{member_limit}
 use Rattle.model.specs.Book.{Specs, Systems, composed, facilities, has_version, is_member, is_system, member, provides, usable}
 use Rattle.model.specs.Maps.{if_there}
 use Rattle.model.specs.Rules.{B5_at, B6_at, B7_at, B8_at, B9_at, each_composition, needs, offered, p, r}
-use Rattle.book_rules.specs.RuleLaws.{provided_by}
+use Rattle.book_rules.specs.RuleLaws.{and_first, and_second, provided_by}
+use Rattle.sets.specs.Answered.{answered}
 use Rattle.sets.specs.SetLaws.{bit_ext, bit_zero, meet-disjoint}
 use Rattle.sets.specs.Sets.{Set, bit, disjoint, meet, minus, subset, union, union_below}
-use Rattle.sets.specs.TestLaws.{=?-no, =?-not, all_in, all_no, all_out, and-false, and_in, and_l, and_r, and-true, any_in, any_out}
+use Rattle.sets.specs.TestLaws.{=?-no, =?-not, all_in, all_no, all_out, and_in, and_l, and_r, any_in, any_out}
 use Rattle.sets.specs.TestLaws.{bool?, clash, fails, iff→≡, imp_in, imp_no, imp_out, not_in, not_no, not_out, same?}
 use Rattle.sets.specs.Tests.{◌&◌, ◌⇒◌, all, any, ~◌}
 use Rattle.model_laws.specs.Heights.{Sound, needs_system}
-use Rattle.model_laws.specs.MapLaws.{is_some_no, is_some_out}
+use Rattle.model_laws.specs.MapLaws.{is_some_out}
 
 at : {a b : Set} → a ≡ b → (f : ℕ) → a f ≡ b f
 at e f = ap (λ (s : Set). s f) e
@@ -42,20 +43,20 @@ unfoldable pub member_ok : Specs → Systems → ℕ → ℕ → ℕ → Bool
 member_ok S Y s v c = if_there (member Y s v c) (λ w. usable Y s c & has_version S c w)
 
 module _ (S : Specs) (Y : Systems) (s v c : ℕ) where
-  pub member_skip : (x : ℕ) {t : Bool} → bit x ≡ is_member Y s v → t ≡ bit x c → not t ≡ true → true ≡ member_ok S Y s v c
-  unfolding member_ok is_member if_there
-  member_skip x {t} ex et e = sym (ap (λ (o : Option ℕ). if_there o (λ w. usable Y s c & has_version S c w)) (is_some_no _ (sym (at ex c) ∙ sym et ∙ not-true t e)))
+  pub member_none : answered None ≡ member Y s v c → true ≡ member_ok S Y s v c
+  unfolding answered member_ok if_there
+  member_none e = ap (λ (o : Option ℕ). if_there o (λ w. usable Y s c & has_version S c w)) e
 
-  module _ (w u : ℕ) {a : Bool} (em : member Y s v c ≡ some w) (eu : bit u ≡ usable Y s) (ea : a ≡ bit u c) where
-    with_version_lem : member_ok S Y s v c ≡ (usable Y s c & has_version S c w)
-    unfolding member_ok if_there
+  module _ (w u : ℕ) {a : Bool} (em : answered (Some w) ≡ member Y s v c) (eu : bit u ≡ usable Y s) (ea : a ≡ bit u c) where
+    with_version_lem : (usable Y s c & has_version S c w) ≡ member_ok S Y s v c
+    unfolding answered member_ok if_there
     with_version_lem = ap (λ (o : Option ℕ). if_there o (λ w. usable Y s c & has_version S c w)) em
 
-    pub member_unusable : not a ≡ true → false ≡ member_ok S Y s v c
-    member_unusable e = sym (with_version_lem ∙ and-false _ _ (sym (at eu c) ∙ sym ea ∙ not-true a e))
+    pub member_unusable : a ≡ false → a ≡ member_ok S Y s v c
+    member_unusable e = and_first _ _ (ea ∙ at eu c) e ∙ with_version_lem
 
-    pub member_usable : {b : Bool} → not a ≡ false → b ≡ has_version S c w → b ≡ member_ok S Y s v c
-    member_usable e eb = eb ∙ sym (with_version_lem ∙ and-true _ _ (sym (at eu c) ∙ sym ea ∙ not-false a e))
+    pub member_usable : {b : Bool} → a ≡ true → b ≡ has_version S c w → b ≡ member_ok S Y s v c
+    member_usable e eb = and_second _ _ (ea ∙ at eu c) e eb ∙ with_version_lem
 
 module _ (s n : List ℕ) (c v x : ℕ) (x< : x < 2 ^ 64) (ex : bit x ≡ is_member (systems_of s n) c v) where
   some_member : any 32 (is_member (systems_of s n) c v) ≡ not (eqb x 0)
@@ -65,13 +66,14 @@ module _ (s n : List ℕ) (c v x : ℕ) (x< : x < 2 ^ 64) (ex : bit x ≡ is_mem
       (λ t. (let q = any_out 64 _ (any_bit 64 x x< ∙ t) in let m = is_some_out _ (sym (at ex q.0) ∙ q.2) in
       any_in 32 _ q.0 (member_limit s n c v q.0 m.0 m.1) (sym (at ex q.0) ∙ q.2)))
 
-  pub b5_empty : x ≡ 0 → false ≡ B5_at (specs_of s n) (systems_of s n) c v
+  pub b5_empty : not (eqb x 0) ≡ false → not (eqb x 0) ≡ B5_at (specs_of s n) (systems_of s n) c v
   unfolding B5_at
-  b5_empty z = sym (and-false _ _ (some_member ∙ ap not (eq-eqb x 0 z)))
+  b5_empty z = and_first _ _ (sym some_member) z
 
-  pub b5_members : {r : Bool} → (x ≡ 0 → ⊥) → r ≡ all 32 (member_ok (specs_of s n) (systems_of s n) c v) → r ≡ B5_at (specs_of s n) (systems_of s n) c v
+  pub b5_members : {r : Bool} → not (eqb x 0) ≡ true → r ≡ all 32 (member_ok (specs_of s n) (systems_of s n) c v)
+      → r ≡ B5_at (specs_of s n) (systems_of s n) c v
   unfolding B5_at member_ok
-  b5_members ne e = e ∙ sym (and-true _ _ (some_member ∙ ap not (ne_eqb x 0 ne)))
+  b5_members ne e = and_second _ _ (sym some_member) ne e
 
 -- ---- B6
 
@@ -137,9 +139,9 @@ unfoldable pub wanted_if : Specs → Systems → ℕ → ℕ → Set → ℕ →
 wanted_if S Y s v a c = is_member Y s v c ⇒ meet facilities (provides S c) a
 
 module _ (S : Specs) (Y : Systems) (s v c x : ℕ) (a : Set) {t : Bool} (ex : bit x ≡ is_member Y s v) (et : t ≡ bit x c) where
-  pub wanted_skip : t ≡ false → true ≡ wanted_if S Y s v a c
+  pub wanted_skip : t ≡ false → not t ≡ wanted_if S Y s v a c
   unfolding wanted_if ◌⇒◌
-  wanted_skip e = sym (ap (λ (b : Bool). b ⇒ meet 64 (provides S c) a) (sym (at ex c) ∙ sym et ∙ e))
+  wanted_skip e = ap not e ∙ sym (ap (λ (b : Bool). b ⇒ meet 64 (provides S c) a) (sym (at ex c) ∙ sym et ∙ e))
 
   pub wanted_is : (y z : ℕ) {r : Bool} → t ≡ true → bit y ≡ provides S c → bit z ≡ a → r ≡ disjoint 64 (bit y) (bit z) → not r ≡ wanted_if S Y s v a c
   unfolding wanted_if ◌⇒◌ ~◌

@@ -5,20 +5,20 @@ use Rattle.std.proofs.Common.{inl, inr, ◌∙◌, arith, pow_pos}
 use Rattle.std.proofs.Math.Path.{ap, ap₂, fun_ext, refl, sym}
 use Rattle.std.proofs.Math.Numerals.{add-one}
 use Rattle.std.proofs.Math.Dec.{leb}
-use borrow.Author.Tests.{eq-eqb, eqb-true, not-false, not-true}
+use borrow.Author.Tests.{eq-eqb, eqb-true}
 use Rattle.book.specs.Plain.{kind_is, modules_of, specs_of, systems_of}
 use Rattle.book.specs.PutLaws.{module_or_system}
 use Rattle.book.specs.ReadLaws.{composition_plain, has_version_plain, implementation_plain, is_module_plain, is_system_plain}
 use Rattle.book.specs.ReadLaws.{kind_specified, spec_limits_lem, specified_plain, usable_limit}
 use Rattle.model.specs.Book.{Specs, Systems, components, composed, facilities, has_version, implementation, is_defined, is_member}
-use Rattle.model.specs.Book.{is_module, is_system, provides, requires, specified, standard, usable, versions}
+use Rattle.model.specs.Book.{is_module, is_system, provides, requires, specified, usable, versions}
 use Rattle.model.specs.Limits.{how_many}
 use Rattle.model.specs.Maps.{is_some}
-use Rattle.model.specs.Rules.{B1_at, B2_at, B3_at, offered, p}
+use Rattle.model.specs.Rules.{B2_at, B3_at, offered, p}
 use Rattle.sets.specs.LoopLaws.{union_turn}
 use Rattle.sets.specs.SetLaws.{bit_ext, bit_zero, subset_width}
 use Rattle.sets.specs.Sets.{Set, bit, disjoint, subset, union, union_below}
-use Rattle.sets.specs.TestLaws.{<?_in, <?_no, <?_out, all_in, all_out, and-false, and_in, and-true, bool?}
+use Rattle.sets.specs.TestLaws.{<?_no, all_in, all_out, and-false, and_in, and-true, bool?}
 use Rattle.sets.specs.TestLaws.{clash, fails, if-true, iff_in, iff→≡, imp_in, not_in, not_out, or-false, or_out}
 use Rattle.sets.specs.Tests.{◌&◌, ◌<?◌, ◌⇒◌, ◌⇔◌, ◌≤?◌, all, any, count, ~◌}
 use Rattle.model_laws.specs.Good.{requires_version}
@@ -30,13 +30,22 @@ use Rattle.sets.specs.Sets as sets
 at : {a b : Set} → a ≡ b → (f : ℕ) → a f ≡ b f
 at e f = ap (λ (s : Set). s f) e
 
-imp_test : (a b : Bool) {r : Bool} → a ≡ true → r ≡ b → r ≡ (a ⇒ b)
+pub imp_test : (a b : Bool) {r : Bool} → a ≡ true → r ≡ b → r ≡ (a ⇒ b)
 unfolding ◌⇒◌
 imp_test a b t e = e ∙ sym (ap (λ (x : Bool). x ⇒ b) t)
 
-imp_skip : (a b : Bool) → a ≡ false → true ≡ (a ⇒ b)
+pub imp_skip : (a b : Bool) → a ≡ false → true ≡ (a ⇒ b)
 unfolding ◌⇒◌
 imp_skip a b e = sym (ap (λ (x : Bool). x ⇒ b) e)
+
+-- what `a && b` gives: b where a holds, else a
+pub and_second : {a b : Bool} (p q : Bool) → a ≡ p → a ≡ true → b ≡ q → b ≡ (p & q)
+and_second p q ea t eb = eb ∙ sym (and-true _ _ (sym ea ∙ t))
+
+pub and_first : {a : Bool} (p q : Bool) → a ≡ p → a ≡ false → a ≡ (p & q)
+and_first p q ea f = f ∙ sym (and-false _ _ (sym ea ∙ f))
+
+pub ruleset ands = (and_first, and_second)
 
 -- ---- B1
 
@@ -50,17 +59,9 @@ module _ (S : Specs) (c : ℕ) where
   own_free_lem v q p eq ep e = e ∙ ap₂ (disjoint 64) eq ep
 
   -- a version that c has not requires nothing
-  pub own_absent : (v x : ℕ) {r : Bool} → bit x ≡ has_version S c → r ≡ bit x v → r ≡ false → true ≡ own_free S c v
+  pub own_absent : (v x : ℕ) {r : Bool} → bit x ≡ has_version S c → r ≡ bit x v → r ≡ false → not r ≡ own_free S c v
   unfolding own_free disjoint
-  own_absent v x ex er e = sym (all_in 64 _ (λ f l. imp_in _ _ (λ t. clash (requires_version S c v f t) (sym (at ex v) ∙ sym er ∙ e))))
-
-  pub b1_no : {r : Bool} → r ≡ all 64 (own_free S c) → not r ≡ true → false ≡ B1_at S c
-  unfolding B1_at own_free
-  b1_no {r} e n = sym (and-false _ _ (sym e ∙ not-true r n))
-
-  pub b1_last : {r t : Bool} (v : ℕ) → r ≡ all 64 (own_free S c) → not r ≡ false → v ≡ standard S c → t ≡ has_version S c v → t ≡ B1_at S c
-  unfolding B1_at own_free
-  b1_last {r} v e n ev et = et ∙ ap (has_version S c) ev ∙ sym (and-true _ _ (sym e ∙ not-false r n))
+  own_absent v x ex er e = ap not e ∙ sym (all_in 64 _ (λ f l. imp_in _ _ (λ t. clash (requires_version S c v f t) (sym (at ex v) ∙ sym er ∙ e))))
 
 unfoldable pub unspecified : Specs → ℕ → Bool
 unspecified S c = ~ specified S c
@@ -68,32 +69,6 @@ unspecified S c = ~ specified S c
 pub unspecified_is : (S : Specs) (c : ℕ) {r : Bool} → r ≡ specified S c → not r ≡ unspecified S c
 unfolding unspecified ~◌
 unspecified_is S c e = ap not e
-
--- a test of what is specified, of a component
-unfoldable pub if_specified : Specs → (ℕ → Bool) → ℕ → Bool
-if_specified S test c = specified S c ⇒ test c
-
-module _ (S : Specs) (test : ℕ → Bool) (c : ℕ) {r : Bool} (er : r ≡ specified S c) where
-  pub specified_test : {t : Bool} → r ≡ true → t ≡ test c → t ≡ if_specified S test c
-  unfolding if_specified
-  specified_test y e = imp_test _ _ (sym er ∙ y) e
-
-  pub specified-skip : r ≡ false → true ≡ if_specified S test c
-  unfolding if_specified
-  specified-skip n = imp_skip _ _ (sym er ∙ n)
-
--- a test of a system
-unfoldable pub if_system : Systems → (ℕ → Bool) → ℕ → Bool
-if_system Y test s = is_system Y s ⇒ test s
-
-module _ (Y : Systems) (test : ℕ → Bool) (s : ℕ) {r : Bool} (er : r ≡ is_system Y s) where
-  pub system_test : {t : Bool} → r ≡ true → t ≡ test s → t ≡ if_system Y test s
-  unfolding if_system
-  system_test y e = imp_test _ _ (sym er ∙ y) e
-
-  pub system_skip : r ≡ false → true ≡ if_system Y test s
-  unfolding if_system
-  system_skip n = imp_skip _ _ (sym er ∙ n)
 
 -- ---- one to eight versions
 
@@ -105,13 +80,13 @@ module _ (S : Specs) (c x n : ℕ) (ex : bit x ≡ has_version S c) (en : n ≡ 
   unfolding how_many
   many = sym (en ∙ ap (count 64) ex)
 
-  pub count-zero : n ≡ 0 → false ≡ count_ok S c
-  unfolding count_ok
-  count-zero z = sym (and-false _ _ (fails _ (λ t. omega (arith, <?_out _ _ t, many, z))))
+  pub count_none : leb 1 n ≡ false → leb 1 n ≡ count_ok S c
+  unfolding count_ok ◌<?◌ ◌≤?◌
+  count_none z = and_first _ _ (ap (leb 1) (sym many)) z
 
-  pub count_is : (n ≡ 0 → ⊥) → leb n 8 ≡ count_ok S c
-  unfolding count_ok ◌≤?◌
-  count_is z = sym (and-true _ _ (<?_in _ _ (omega (arith, z, many))) ∙ ap (λ (k : ℕ). leb k 8) many)
+  pub count_is : leb 1 n ≡ true → leb n 8 ≡ count_ok S c
+  unfolding count_ok ◌<?◌ ◌≤?◌
+  count_is z = and_second _ _ (ap (leb 1) (sym many)) z (ap (λ (k : ℕ). leb k 8) (sym many))
 
 -- ---- unions
 
@@ -119,15 +94,22 @@ module _ (S : Specs) (c x n : ℕ) (ex : bit x ≡ has_version S c) (en : n ≡ 
 unfoldable pub provided_by : Specs → Set → ℕ → Set
 provided_by S us c f = us c & provides S c f
 
-module _ (S : Specs) (us : Set) (c x : ℕ) where
-  pub provided_more : (y z : ℕ) {t : Bool} → bit x ≡ union_below c (provided_by S us) → t ≡ us c → t ≡ true → bit y ≡ provides S c → bit z ≡ union (bit x) (bit y)
-      → bit z ≡ union_below (c + 1) (provided_by S us)
+module _ (S : Specs) (us : Set) (c : ℕ) {t : Bool} (et : t ≡ us c) where
+  pub provided_in : (y : ℕ) → t ≡ true → bit y ≡ provides S c → bit y ≡ provided_by S us c
   unfolding provided_by
-  provided_more y z ex et e ey ez = union_turn c (provided_by S us) x z ex (ez ∙ ap (union (bit x)) (ey ∙ fun_ext (λ f. sym (and-true _ _ (sym et ∙ e)))))
+  provided_in y e ey = ey ∙ fun_ext (λ f. sym (and-true _ _ (sym et ∙ e)))
 
-  pub provided_same : {t : Bool} → bit x ≡ union_below c (provided_by S us) → t ≡ us c → t ≡ false → bit x ≡ union_below (c + 1) (provided_by S us)
+  pub provided_out : t ≡ false → bit 0 ≡ provided_by S us c
+  unfolding provided_by
+  provided_out e = fun_ext (λ f. bit_zero f ∙ sym (and-false _ _ (sym et ∙ e)))
+
+module _ (S : Specs) (us : Set) (c x : ℕ) (ex : bit x ≡ union_below c (provided_by S us)) {t : Bool} (et : t ≡ us c) where
+  pub provided_more : (y z : ℕ) → t ≡ true → bit y ≡ provides S c → bit z ≡ union (bit x) (bit y) → bit z ≡ union_below (c + 1) (provided_by S us)
+  provided_more y z e ey ez = union_turn c (provided_by S us) x z ex (ez ∙ ap (union (bit x)) (provided_in S us c et y e ey))
+
+  pub provided_same : t ≡ false → bit x ≡ union_below (c + 1) (provided_by S us)
   unfolding provided_by union_below any
-  provided_same ex et e = ex ∙ fun_ext (λ f. rw add-one (sym (or-false _ _ (and-false _ _ (sym et ∙ e)))))
+  provided_same e = ex ∙ fun_ext (λ f. rw add-one (sym (or-false _ _ (and-false _ _ (sym et ∙ e)))))
 
 offered_is : (S : Specs) (Y : Systems) (s : ℕ) → union_below 32 (provided_by S (usable Y s)) ≡ offered S Y s
 unfolding union_below provided_by offered
@@ -183,31 +165,30 @@ module _ (s n : List ℕ) (c : ℕ) where
   remains = and-true _ _ defined_specified ∙ ap (λ (x : Bool). usable_specified & x)
       (and-true _ _ not_both ∙ and-true _ _ module_covers ∙ and-true _ _ system_covers)
 
-  pub b2_other : {r : Bool} → r ≡ is_system (systems_of s n) c → not r ≡ true → true ≡ B2_at (specs_of s n) (modules_of n) (systems_of s n) c
+  pub b2_other : {r : Bool} → r ≡ is_system (systems_of s n) c → r ≡ false → not r ≡ B2_at (specs_of s n) (modules_of n) (systems_of s n) c
   unfolding usable_specified
-  b2_other {r} e t = sym (remains ∙ and_in _ _
-      (all_in 32 _ (λ d l. imp_in _ _ (λ u. clash (usable_system (systems_of s n) c d u) (sym e ∙ not-true r t)))) (sym (imp_skip _ _ (sym e ∙ not-true r t))))
+  b2_other {r} e t = ap not t ∙ sym (remains ∙ and_in _ _
+      (all_in 32 _ (λ d l. imp_in _ _ (λ u. clash (usable_system (systems_of s n) c d u) (sym e ∙ t)))) (sym (imp_skip _ _ (sym e ∙ t))))
 
-  module _ {r : Bool} (e : r ≡ is_system (systems_of s n) c) (t : not r ≡ false) (u x : ℕ) (eu : bit u ≡ usable (systems_of s n) c)
+  module _ {r : Bool} (e : r ≡ is_system (systems_of s n) c) (t : r ≡ true) (u x : ℕ) (eu : bit u ≡ usable (systems_of s n) c)
       (ex : bit x ≡ specified (specs_of s n)) {q : Bool} (eq : q ≡ subset 64 (bit u) (bit x)) where
     subset_is : subset 64 (bit u) (bit x) ≡ usable_specified
     unfolding usable_specified
     subset_is = ap₂ (subset 64) eu ex ∙ subset_width 32 64 (usable (systems_of s n) c) (specified (specs_of s n)) (omega arith)
         (λ d l. fails _ (λ k. omega (arith, l, usable_limit s n c d k))) ∙ unfold subset in refl
 
-    pub b2_unspecified : not q ≡ true → false ≡ B2_at (specs_of s n) (modules_of n) (systems_of s n) c
-    b2_unspecified z = sym (remains ∙ and-false _ _ (sym subset_is ∙ sym eq ∙ not-true q z))
+    pub b2_unspecified : q ≡ false → q ≡ B2_at (specs_of s n) (modules_of n) (systems_of s n) c
+    b2_unspecified z = z ∙ sym (remains ∙ and-false _ _ (sym subset_is ∙ sym eq ∙ z))
 
-    pub b2_bare : {b : Bool} → not q ≡ false → b ≡ all 64 bare → b ≡ B2_at (specs_of s n) (modules_of n) (systems_of s n) c
-    b2_bare {b} z eb = eb ∙ sym (remains ∙ and-true _ _ (sym subset_is ∙ sym eq ∙ not-false q z)
-        ∙ sym (imp_test _ (all 64 bare) (sym e ∙ not-false r t) refl))
+    pub b2_bare : {b : Bool} → q ≡ true → b ≡ all 64 bare → b ≡ B2_at (specs_of s n) (modules_of n) (systems_of s n) c
+    b2_bare {b} z eb = eb ∙ sym (remains ∙ and-true _ _ (sym subset_is ∙ sym eq ∙ z) ∙ sym (imp_test _ (all 64 bare) (sym e ∙ t) refl))
 
 -- the set of the specified components
-pub specified_end : (s n : List ℕ) (c x : ℕ) → c ≤ 32 → 32 ≤ c → bit x ≡ sets.below c (specified (specs_of s n)) → bit x ≡ specified (specs_of s n)
+pub specified_below : (s n : List ℕ) (x : ℕ) → bit x ≡ sets.below 32 (specified (specs_of s n)) → bit x ≡ specified (specs_of s n)
 unfolding sets.below
-specified_end s n c x h k ex = ex ∙ fun_ext (λ d. elim (bool? (d <? c)) [
+specified_below s n x ex = ex ∙ fun_ext (λ d. elim (bool? (d <? 32)) [
   | inl y ↦ and-true _ _ y
-  | inr z ↦ and-false _ _ z ∙ sym (fails _ (λ t. omega (arith, (spec_limits_lem s n).component< d t, <?_no _ _ z, k)))
+  | inr z ↦ and-false _ _ z ∙ sym (fails _ (λ t. omega (arith, (spec_limits_lem s n).component< d t, <?_no _ _ z)))
 ])
 
 -- ---- B3

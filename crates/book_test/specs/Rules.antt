@@ -1,13 +1,8 @@
--- What each rule of a composition asks.
+-- What B6 to B9 ask of one composition.
 use Rattle.std.specs.Prelude.{Bool, ℕ}
-use Rattle.book_test.specs.declared.Rule.{Rule}
-use Rattle.book_test.specs.declared.Rule.TheVariants.{B5, B6, B7, B8, B9}
-use Rattle.model.specs.Book.{Specs, Systems}
-use Rattle.model.specs.Rules.{B5_at, B6_at, B7_at, B8_at, B9_at}
+use Rattle.model.specs.Book.{Book}
+use Rattle.model.specs.Rules.{B6_at, B7_at, B8_at, B9_at}
+use Rattle.sets.specs.Tests.{◌&◌}
 
-unfoldable pub rule_at : Rule → Specs → Systems → ℕ → ℕ → Bool
-rule_at B5 = B5_at
-rule_at B6 = B6_at
-rule_at B7 = B7_at
-rule_at B8 = B8_at
-rule_at B9 = B9_at
+unfoldable pub B6_to_B9_at : Book → ℕ → ℕ → Bool
+B6_to_B9_at b s v = B6_at b.specs b.systems s v & B7_at b.specs b.systems s v & B8_at b.specs b.systems s v & B9_at b.specs b.systems s v

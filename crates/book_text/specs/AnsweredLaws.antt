@@ -10,7 +10,7 @@ use borrow.Author.Tests.{not-false, not-true}
 use Rattle.std.proofs.Math.ListN.{length}
 use Rattle.book.specs.Plain.{plain_of}
 use Rattle.write_bytes.specs.Written.{starting_with, wrote}
-use Rattle.names.specs.Stored.{tables_of}
+use Rattle.names.specs.Stored.{Rows, tables_of}
 use Rattle.book_rules.specs.Test as test
 use Rattle.book_test.specs.TestedLaws.{not_passed}
 use Rattle.refusal.specs.Numbers.{code, found}
@@ -23,7 +23,7 @@ use Rattle.text.specs.Handed.{names_hold}
 use Rattle.text.specs.Written.{written}
 use Rattle.names_test.specs.Answered.{TextCall, handed, passes_named, slice_with, text_answer, text_len}
 
-module _ (s n c v f i old : List ℕ) where
+module _ (s n : List ℕ) (c v f i : Rows) (old : List ℕ) where
   abbrev the : Text
   the = written (plain_of s n) (tables_of c v f i)
 

@@ -1,6 +1,6 @@
 -- The adding commands of a specification, a module and a version of a module: from the answer 0 what the writer asks, and what it leaves
 -- is what the command changes.
-use Rattle.std.specs.Prelude.{Bool, false, true, List, [], ◌∷◌, ◌≡◌, ◌<◌, ◌^◌, ◌≤◌, ℕ, get_or}
+use Rattle.std.specs.Prelude.{Bool, false, true, List, [], ◌∷◌, ◌≡◌, ◌<◌, ◌≤◌, ℕ, get_or}
 use Rattle.std.proofs.Common.{◌∙◌, ap₂, subst}
 use Rattle.std.proofs.Math.Path.{ap, fun_ext, sym}
 use native.Mathlib.Omega.{arith}
@@ -10,125 +10,125 @@ use Rattle.model.specs.Book.{Book, components, facilities, has_version, implemen
 use Rattle.model.specs.Commands.{ADD-MOD, ADD-MODVAR, ADD-SPEC, after}
 use Rattle.model.specs.Limits.{Passes, how_many}
 use Rattle.model.specs.Lists.{set_of}
-use Rattle.model.specs.Maps.{Map, only_if}
+use Rattle.model.specs.Maps.{Map, if_there, only_if}
 use Rattle.model.specs.PlainBook.{answer}
 use Rattle.model.specs.Questions.{Question, each_below}
-use Rattle.command_questions.specs.Asked.{mod_questions, spec_questions}
-use Rattle.command_questions.specs.AskedLaws.{mod_asked, spec_asked}
 use Rattle.command_lists.specs.AnswerLaws.{mod_after_lem, mod_answer_lem, modvar_after, modvar_answer_lem, spec_after_lem, spec_answer_lem}
 use Rattle.command_lists.specs.Answers.{mod_after, mod_answer, modvar_answer, spec_after, spec_answer}
-use Rattle.command_lists.specs.Gathered.{Gathered}
+use Rattle.command_lists.specs.Gathered.{Gathered, listed}
 use Rattle.command_lists.specs.Said.{numbers_of, sets_of}
-use Rattle.command_lists.specs.Views.{byte_at, held, numbers_view, set_at, sets_view}
-use Rattle.command_lists.specs.declared.Numbers.{Numbers}
-use Rattle.command_lists.specs.declared.Sets.{Sets}
+use Rattle.command_lists.specs.Views.{numbers_view, sets_view}
+use Rattle.command_lists.specs.ViewLaws.{given_only, listed_mapped}
+use Rattle.command_lists.specs.declared.gathered.Gathered.{Gathered as Kept}
 use Rattle.sets.specs.SetLaws.{bit_limit}
 use Rattle.sets.specs.Sets.{Set, bit, disjoint}
 use Rattle.sets.specs.TestLaws.{<?_in, <?_out, all_out, and_absorb, and_l, and_r, and_swap, iff_out, iff→≡, not_out, ≤?_out}
-use Rattle.sets.specs.Tests.{◌&◌, ◌<?◌, ~◌, count}
-use Rattle.model_laws.specs.Accepted.{EachYes, Numbered, all_yes}
+use Rattle.sets.specs.Tests.{◌&◌, ◌<?◌, ◌⇔◌, ◌≤?◌, ~◌, all, any, count}
+use Rattle.model_laws.specs.Accepted.{EachYes, all_yes}
 use Rattle.model_laws.specs.Good.{passes→good}
 
 -- ---- ADD-SPEC
 
-module _ (b : Book) (c p : ℕ) (g : Sets) (std : ℕ) where
+module _ (b : Book) (c p : ℕ) (g : Kept ℕ 64) (std : ℕ) where
   abbrev SpecZero : Type 0
   SpecZero = spec_answer b c (bit p) (sets_view g) std ≡ 0
 
-  spec_yes : SpecZero → EachYes (spec_questions b c (bit p) g.large g.twice g.listed g.at std)
-  spec_yes zero = all_yes (spec_questions b c (bit p) g.large g.twice g.listed g.at std) numbered (sym (spec_asked b c p g std) ∙ zero)
-    where
-      numbered : Numbered (spec_questions b c (bit p) g.large g.twice g.listed g.at std)
-      numbered = unfold spec_questions in omega arith
+  abbrev SpecAsked : List Question
+  SpecAsked =
+      (1, c <? components & ~ (sets_view g).large & std <? versions) ∷
+      (2, any versions (listed (sets_view g))) ∷
+      (3, ~ (sets_view g).twice) ∷
+      (5, ~ specified b.specs c) ∷
+      (12, count versions (listed (sets_view g)) ≤? 8) ∷
+      (13, all versions (λ v. if_there ((sets_view g).given v) (disjoint facilities (bit p)))) ∷
+      (14, listed (sets_view g) std) ∷ []
+
+  spec_yes : SpecZero → EachYes SpecAsked
+  unfolding spec_answer
+  spec_yes zero = all_yes SpecAsked (omega arith) zero
 
   pub spec_component : SpecZero → c < 32
-  unfolding spec_questions
   spec_component zero = <?_out _ _ (and_l _ _ (spec_yes zero).0)
 
   pub spec_standard : SpecZero → std < 64
-  unfolding spec_questions
   spec_standard zero = <?_out _ _ (and_r _ _ (and_r _ _ (spec_yes zero).0))
 
   pub spec_new : SpecZero → specified b.specs c ≡ false
-  unfolding spec_questions
   spec_new zero = not_out _ (spec_yes zero).1.1.1.0
 
   pub spec_few : SpecZero → count 64 (bit g.listed) ≤ 8
-  unfolding spec_questions
-  spec_few zero = ≤?_out _ _ (spec_yes zero).1.1.1.1.0
-
-  spec_small : SpecZero → (~ (sets_view g).large) ≡ true
-  unfolding spec_questions sets_view held
-  spec_small zero = and_l _ _ (and_r _ _ (spec_yes zero).0)
+  unfolding sets_view
+  spec_few zero = rw (← listed_mapped 64 g facility_set) (≤?_out _ _ (spec_yes zero).1.1.1.1.0)
 
   module _ (ps : List ℕ) (vs : List (ℕ × List ℕ)) (pb : each_below facilities ps ≡ true) (pe : set_of ps ≡ bit p) (e : sets_view g ≡ sets_of vs) where
     pub spec_answers : answer b (ADD-SPEC c ps vs std) ≡ spec_answer b c (bit p) (sets_view g) std
     spec_answers = spec_answer_lem b c ps vs std pb ∙ ap₂ (λ (x : Set) (y : Gathered Set). spec_answer b c x y std) pe (sym e)
 
-    pub spec_leaves : SpecZero → g.listed < 2 ^ 64 → after b (ADD-SPEC c ps vs std) ≡ with_spec b c (spec_from (bit p) (bit g.listed) g.at std 64)
-    spec_leaves zero low =
-        spec_after_lem b c ps vs std pb (sym (ap (λ (y : Gathered Set). ~ y.large) e) ∙ spec_small zero)
+    pub spec_leaves : SpecZero → after b (ADD-SPEC c ps vs std) ≡ with_spec b c (spec_from (bit p) (bit g.listed) g.at std 64)
+    spec_leaves zero =
+        spec_after_lem b c ps vs std pb (sym (ap (λ (y : Gathered Set). ~ y.large) e) ∙ and_l _ _ (and_r _ _ (spec_yes zero).0))
         ∙ ap₂ (λ (x : Set) (y : Gathered Set). spec_after b c x y std) pe (sym e) ∙ as_written
       where
         as_written : spec_after b c (bit p) (sets_view g) std ≡ with_spec b c (spec_from (bit p) (bit g.listed) g.at std 64)
-        as_written = unfold spec_after sets_view held spec_from set_at in
+        as_written = unfold spec_after sets_view spec_from in
             ap (λ (q : Map Set). with_spec b c (record { prov = bit p; req = q; std = std }))
-            (fun_ext (λ v. ap (λ (t : Bool). only_if t (facility_set (get_or g.at v 0))) (sym (and_swap _ _ ∙ and_absorb _ _ (λ t. <?_in _ _ (bit_limit 64 g.listed v low t))))))
+            (fun_ext (λ v. given_only 64 g facility_set 0 v ∙ ap (λ (t : Bool). only_if t (facility_set (get_or g.at v 0)))
+            (sym (and_swap _ _ ∙ and_absorb _ _ (λ t. <?_in _ _ (bit_limit 64 g.listed v g.low t))))))
 
-    pub spec_holds : {s' n' : List ℕ} → SpecZero → g.listed < 2 ^ 64 → Holds s' n' (with_spec b c (spec_from (bit p) (bit g.listed) g.at std 64))
+    pub spec_holds : {s' n' : List ℕ} → SpecZero → Holds s' n' (with_spec b c (spec_from (bit p) (bit g.listed) g.at std 64))
         → Holds s' n' (after b (ADD-SPEC c ps vs std))
-    spec_holds zero low h = subst (Holds _ _) (sym (spec_leaves zero low)) h
+    spec_holds zero h = subst (Holds _ _) (sym (spec_leaves zero)) h
 
 -- ---- ADD-MOD
 
-module _ (b : Book) (c : ℕ) (g : Numbers) where
+module _ (b : Book) (c : ℕ) (g : Kept ℕ 64) where
   abbrev ModZero : Type 0
   ModZero = mod_answer b c (numbers_view g) ≡ 0
 
-  mod_yes : ModZero → EachYes (mod_questions b c g.large g.twice g.listed)
-  mod_yes zero = all_yes (mod_questions b c g.large g.twice g.listed) numbered (sym (mod_asked b c g) ∙ zero)
-    where
-      numbered : Numbered (mod_questions b c g.large g.twice g.listed)
-      numbered = unfold mod_questions in omega arith
+  abbrev ModAsked : List Question
+  ModAsked =
+      (1, c <? components & ~ (numbers_view g).large) ∷
+      (2, any versions (listed (numbers_view g))) ∷
+      (3, ~ (numbers_view g).twice) ∷
+      (4, specified b.specs c) ∷
+      (8, ~ is_defined b.modules b.systems c) ∷
+      (9, all versions (λ v. listed (numbers_view g) v ⇔ has_version b.specs c v)) ∷ []
+
+  mod_yes : ModZero → EachYes ModAsked
+  unfolding mod_answer
+  mod_yes zero = all_yes ModAsked (omega arith) zero
 
   pub mod_component : ModZero → c < 32
-  unfolding mod_questions
   mod_component zero = <?_out _ _ (and_l _ _ (mod_yes zero).0)
 
   pub mod_specified : ModZero → specified b.specs c ≡ true
-  unfolding mod_questions
   mod_specified zero = (mod_yes zero).1.1.1.0
 
   pub mod_undefined : ModZero → is_defined b.modules b.systems c ≡ false
-  unfolding mod_questions
   mod_undefined zero = not_out _ (mod_yes zero).1.1.1.1.0
 
-  mod_small : ModZero → (~ (numbers_view g).large) ≡ true
-  unfolding mod_questions numbers_view held
-  mod_small zero = and_r _ _ (mod_yes zero).0
-
   -- the versions listed are exactly the specified ones
-  mod_exact : ModZero → Passes b → g.listed < 2 ^ 64 → (v : ℕ) → bit g.listed v ≡ has_version b.specs c v
-  unfolding mod_questions
-  mod_exact zero ok low v = iff→≡ _ _
-      (λ t. sym (iff_out _ _ (all_out 64 _ (mod_yes zero).1.1.1.1.1.0 v (bit_limit 64 g.listed v low t))) ∙ t)
-      (λ t. iff_out _ _ (all_out 64 _ (mod_yes zero).1.1.1.1.1.0 v ((passes→good ok).spec_limits.version< c v t)) ∙ t)
+  mod_exact : ModZero → Passes b → (v : ℕ) → bit g.listed v ≡ has_version b.specs c v
+  unfolding numbers_view
+  mod_exact zero ok v =
+      let one : (w : ℕ) → w < 64 → bit g.listed w ≡ has_version b.specs c w = λ w h. sym (ap (λ (a : Set). a w) (listed_mapped 64 g byte)) ∙ iff_out _ _ (all_out 64 _ (mod_yes zero).1.1.1.1.1.0 w h) in
+      iff→≡ _ _ (λ t. sym (one v (bit_limit 64 g.listed v g.low t)) ∙ t) (λ t. one v ((passes→good ok).spec_limits.version< c v t) ∙ t)
 
   module _ (is : List (ℕ × ℕ)) (e : numbers_view g ≡ numbers_of is) where
     pub mod_answers : answer b (ADD-MOD c is) ≡ mod_answer b c (numbers_view g)
     mod_answers = mod_answer_lem b c is ∙ ap (mod_answer b c) (sym e)
 
-    pub mod_leaves : ModZero → Passes b → g.listed < 2 ^ 64 → after b (ADD-MOD c is) ≡ with_module b c (implementations_of b.specs c g.at)
-    mod_leaves zero ok low =
-        mod_after_lem b c is (sym (ap (λ (y : Gathered ℕ). ~ y.large) e) ∙ mod_small zero) ∙ ap (mod_after b c) (sym e) ∙ as_written
+    pub mod_leaves : ModZero → Passes b → after b (ADD-MOD c is) ≡ with_module b c (implementations_of b.specs c g.at)
+    mod_leaves zero ok =
+        mod_after_lem b c is (sym (ap (λ (y : Gathered ℕ). ~ y.large) e) ∙ and_r _ _ (mod_yes zero).0) ∙ ap (mod_after b c) (sym e) ∙ as_written
       where
         as_written : mod_after b c (numbers_view g) ≡ with_module b c (implementations_of b.specs c g.at)
-        as_written = unfold mod_after numbers_view held implementations_of byte_at in
-            ap (with_module b c) (fun_ext (λ v. ap (λ (t : Bool). only_if t (byte (get_or g.at v 0))) (mod_exact zero ok low v)))
+        as_written = unfold mod_after numbers_view implementations_of in
+            ap (with_module b c) (fun_ext (λ v. given_only 64 g byte 0 v ∙ ap (λ (t : Bool). only_if t (byte (get_or g.at v 0))) (mod_exact zero ok v)))
 
-    pub mod_holds : {s' n' : List ℕ} → ModZero → Passes b → g.listed < 2 ^ 64 → Holds s' n' (with_module b c (implementations_of b.specs c g.at))
+    pub mod_holds : {s' n' : List ℕ} → ModZero → Passes b → Holds s' n' (with_module b c (implementations_of b.specs c g.at))
         → Holds s' n' (after b (ADD-MOD c is))
-    mod_holds zero ok low h = subst (Holds _ _) (sym (mod_leaves zero ok low)) h
+    mod_holds zero ok h = subst (Holds _ _) (sym (mod_leaves zero ok)) h
 
 -- ---- ADD-MODVAR
 

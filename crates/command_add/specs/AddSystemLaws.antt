@@ -1,5 +1,5 @@
 -- ADD-SYS and ADD-SYSVAR: the questions that are put to the book afterwards.
-use Rattle.std.specs.Prelude.{Bool, false, not, List, [], ◌++◌, ◌∷◌, ◌≢◌, ◌≡◌, suc, zero, ℕ}
+use Rattle.std.specs.Prelude.{Bool, Option as Found, false, not, List, [], ◌++◌, ◌∷◌, ◌≢◌, ◌≡◌, ℕ}
 use Rattle.std.proofs.Math.Bool.{true}
 use Rattle.std.proofs.Math.Option.{Option}
 use Rattle.std.proofs.Common.{◌∙◌, ap₂, arith}
@@ -12,28 +12,22 @@ use Rattle.model.specs.Maps.{Map}
 use Rattle.model.specs.PlainBook.{answer}
 use Rattle.model.specs.Questions.{Question, first_no}
 use Rattle.model.specs.Rules.{B3, B4, B5_to_B9}
+use Rattle.command_outcome.specs.AskedLaws.{asked_before}
 use Rattle.command_questions.specs.Asked.{sys_asked, sysvar_asked}
-use Rattle.model_laws.specs.FirstNoLaws.{no_at, none-asked, none_left, others_asked, yes_at}
+use Rattle.model_laws.specs.FirstNoLaws.{no_at, none_left, others_asked, yes_at}
 use Rattle.command_lists.specs.AnswerLaws.{sys_after_lem, sys_answer_lem, sysvar_after_lem, sysvar_answer_lem}
 use Rattle.command_lists.specs.Answers.{sys_after, sys_answer, sysvar_after, sysvar_answer}
 use Rattle.command_lists.specs.Gathered.{Gathered, listed}
 use Rattle.command_lists.specs.Said.{compositions_of, members_of, usable_of}
 use Rattle.command_lists.specs.Views.{composition_view, compositions_view, usable_view}
-use Rattle.command_lists.specs.declared.Composition.{Composition}
-use Rattle.command_lists.specs.declared.Compositions.{Compositions}
-use Rattle.command_lists.specs.declared.Usable.{Usable}
+use Rattle.command_lists.specs.declared.gathered.Gathered.{Gathered as Kept}
 use Rattle.sets.specs.TestLaws.{and_l, and_r}
 use Rattle.sets.specs.Tests.{~◌}
 use Rattle.model_laws.specs.Accepted.{EachYes, all_yes}
 
--- the first question with a no, of questions that are put by a function of their own
-asked_no : (qs rs : List Question) (r : ℕ) → r ≡ first_no qs → r ≢ 0 → first_no (qs ++ rs) ≡ r
-asked_no qs rs zero e ne = absurd (ne refl)
-asked_no qs rs (suc m) e ne = none-asked qs rs m (sym e)
-
 -- ---- ADD-SYS
 
-module _ (b : Book) (c : ℕ) (u : Usable) (g : Compositions) where
+module _ (b : Book) (c : ℕ) (u : Kept (Unit {0}) 32) (g : Kept (Kept (Found ℕ) 32) 64) where
   abbrev asked : List Question
   asked = sys_asked b c (usable_view u) (compositions_view g)
 
@@ -62,7 +56,7 @@ module _ (b : Book) (c : ℕ) (u : Usable) (g : Compositions) where
         ∙ ap₂ (λ (x : Gathered (Unit {0})) (y : Gathered (Map (Option ℕ))). sys_answer b c x y) (sym ue) (sym ge) ∙ two_parts
 
     pub sys_refused : (r : ℕ) → r ≡ first_no asked → r ≢ 0 → r ≡ answer b (ADD-SYS c us ks)
-    sys_refused r e ne = sym (sys_answers ∙ asked_no asked asked_after r e ne)
+    sys_refused r e ne = sym (sys_answers ∙ asked_before asked asked_after r e ne)
 
     module _ (none : first_no asked ≡ 0) (b' : Book) (made : b' ≡ afterwards) where
       on : answer b (ADD-SYS c us ks) ≡ first_no asked_after
@@ -112,7 +106,7 @@ module _ (b : Book) (c : ℕ) (u : Usable) (g : Compositions) where
 
 -- ---- ADD-SYSVAR
 
-module _ (b : Book) (c v : ℕ) (g : Composition) where
+module _ (b : Book) (c v : ℕ) (g : Kept (Found ℕ) 32) where
   abbrev asked_var : List Question
   asked_var = sysvar_asked b c v (composition_view g)
 
@@ -139,7 +133,7 @@ module _ (b : Book) (c v : ℕ) (g : Composition) where
     sysvar_answers = sysvar_answer_lem b c v ms ∙ ap (sysvar_answer b c v) (sym ge) ∙ two_parts_var
 
     pub sysvar_refused : (r : ℕ) → r ≡ first_no asked_var → r ≢ 0 → r ≡ answer b (ADD-SYSVAR c v ms)
-    sysvar_refused r e ne = sym (sysvar_answers ∙ asked_no asked_var last_asked r e ne)
+    sysvar_refused r e ne = sym (sysvar_answers ∙ asked_before asked_var last_asked r e ne)
 
     module _ (none : first_no asked_var ≡ 0) (b' : Book) (made : b' ≡ after_var) {p : Bool} (e : p ≡ B5_to_B9 b') where
       pub sysvar_21 : not p ≡ true → answer b (ADD-SYSVAR c v ms) ≡ 21

@@ -1,5 +1,6 @@
 // The five adding commands, on a Book that is known to pass the test for 25. What is gathered of a command's lists goes in, and the call
-// answers for every command of which that is gathered.
+// answers for every command of which that is gathered. Each takes the Book itself and requires that it passes: its callers keep the Book, so
+// that a struct of a lent Book that passes would be made and taken apart again at each call.
 #![tactic(auto)]
 
 ghost use Rattle.std.specs.Prelude.{◌≡◌, true, List, ℕ};
@@ -15,10 +16,11 @@ ghost use Rattle.command_outcome.specs.Outcome.{Called};
 ghost use Rattle.refusal.specs.Numbers.{code};
 
 use book::Book;
+use book_test::Passing;
 use command_lists::{Composition, Compositions, Numbers, Sets, Usable};
 use refusal::Refusal;
 
-// ADD-SPEC.
+// ADD-SPEC. It takes the Book itself, as its callers keep it. The set provided stays apart from the versions, as in the call.
 pub fn add_spec_in(
     book: &mut Book,
     c: usize,
@@ -27,15 +29,17 @@ pub fn add_spec_in(
     standard: usize,
 ) -> Result<(), Refusal>
     requires { test.passes book.old.sets book.old.numbers ≡ true }
-    ensures { (ps : List ℕ) (vs : List (ℕ × List ℕ)) → each_below facilities ps ≡ true → set_of ps ≡ bit provided → sets_view g ≡ sets_of vs
+    ensures { (ps : List ℕ) (vs : List (ℕ × List ℕ))
+        → each_below facilities ps ≡ true → set_of ps ≡ bit provided → sets_view g ≡ sets_of vs
         → Called book.old.sets book.old.numbers (ADD-SPEC c ps vs standard) (code result) book.new.sets book.new.numbers }
 {
     command_spec_questions::spec_answer(book, c, provided, g, standard)?;
+    // `as`: by question 1 the standard version is below 64, so that no other value need be named
     book_put::put_spec(book, c, provided, g.listed, &g.at, standard as u8);
     Ok(())
 }
 
-// ADD-MOD.
+// ADD-MOD. It takes the Book itself, as its callers keep it. Only numbers change, which they are promised.
 pub fn add_mod_in(book: &mut Book, c: usize, g: Numbers) -> Result<(), Refusal>
     requires { test.passes book.old.sets book.old.numbers ≡ true }
     ensures sets_kept { book.new.sets ≡ book.old.sets }
@@ -47,7 +51,7 @@ pub fn add_mod_in(book: &mut Book, c: usize, g: Numbers) -> Result<(), Refusal>
     Ok(())
 }
 
-// ADD-MODVAR.
+// ADD-MODVAR. It takes the Book itself, as its callers keep it.
 pub fn add_modvar_in(
     book: &mut Book,
     c: usize,
@@ -60,19 +64,19 @@ pub fn add_modvar_in(
         → Called book.old.sets book.old.numbers (ADD-MODVAR c v rs i) (code result) book.new.sets book.new.numbers }
 {
     command_version_questions::modvar_answer(book, c, v, required, i)?;
+    // `as`: by question 1 the implementation is below 256, so that no other value need be named
     book_put::put_modvar(book, c, v, required, i as u8);
     Ok(())
 }
 
-// ADD-SYS: B5 to B9 are asked of every system afterwards.
+// ADD-SYS: B5 to B9 are asked of every system afterwards. It takes the Book itself, as its callers keep it.
 pub fn add_sys_in(book: &mut Book, c: usize, u: Usable, g: Compositions) -> Result<(), Refusal>
     requires { test.passes book.old.sets book.old.numbers ≡ true }
     ensures { (us : List ℕ) (ks : List (ℕ × Members)) → usable_view u ≡ usable_of us → compositions_view g ≡ compositions_of ks
         → Called book.old.sets book.old.numbers (ADD-SYS c us ks) (code result) book.new.sets book.new.numbers }
 {
     command_questions::sys_asked(book, c, u, g)?;
-    let mut then = *book;
-    command_candidates::sys_candidate(&mut then, c, u, g);
+    let then = command_candidates::sys_candidate(Passing { book }, c, u, g);
     if !book_rules::b3(&then) {
         return Err(Refusal::BreaksB3);
     }
@@ -86,15 +90,15 @@ pub fn add_sys_in(book: &mut Book, c: usize, u: Usable, g: Compositions) -> Resu
     Ok(())
 }
 
-// ADD-SYSVAR: B5 to B9 are asked of every system afterwards.
+// ADD-SYSVAR: B5 to B9 are asked of every system afterwards. It takes the Book itself, as its callers keep it. What it shares with DEL-SYS is
+// the order alone: the questions and the change are each command's own.
 pub fn add_sysvar_in(book: &mut Book, c: usize, v: usize, g: Composition) -> Result<(), Refusal>
     requires { test.passes book.old.sets book.old.numbers ≡ true }
     ensures { (ms : Members) → composition_view g ≡ members_of ms
         → Called book.old.sets book.old.numbers (ADD-SYSVAR c v ms) (code result) book.new.sets book.new.numbers }
 {
     command_version_questions::sysvar_asked(book, c, v, g)?;
-    let mut after = *book;
-    command_candidates::sysvar_candidate(&mut after, c, v, g);
+    let after = command_candidates::sysvar_candidate(Passing { book }, c, v, g);
     if !book_test::b5_to_b9(&after) {
         return Err(Refusal::BreaksB5ToB9);
     }

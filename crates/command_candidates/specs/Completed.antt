@@ -1,27 +1,25 @@
--- What is handed to the writers of a system: the versions of its members as they are stored, and its members below 32.
-use Rattle.std.specs.Prelude.{List, ◌≡◌, ◌*◌, ◌+◌, ◌<◌, ◌^◌, suc, zero, ℕ, get_or, length, set}
-use Rattle.model.specs.Book.{Specs, standard}
-use Rattle.model.specs.Maps.{or_else}
-use Rattle.command_lists.specs.Views.{mark_said}
-use Rattle.sets.specs.Sets.{Set, below, bit}
-use Rattle.sets.specs.Tests.{if?◌then◌else◌}
+-- What is handed to the writers of a system: the members at each version, and their versions as they are stored.
+use Rattle.std.specs.Prelude.{List, ◌≡◌, ◌%◌, ◌/◌, ◌<◌, ℕ, get_or, length}
+use Rattle.std.specs.Prelude.{Option as Found}
+use Rattle.std.proofs.Math.Option.{Option}
+use Rattle.model.specs.Book.{Specs}
+use Rattle.model.specs.Maps.{Map, and_then, option_map, or_else}
+use Rattle.command_lists.specs.Answers.{stores}
+use Rattle.command_lists.specs.declared.gathered.Gathered.{Gathered as Kept}
 
--- "A composition may leave a member's version out; the member's standard version is stored."
-unfoldable pub version_stored : Specs → ℕ → ℕ → ℕ
-version_stored S m mark = or_else (mark_said mark) (standard S m)
+-- the version of the member m at the version v that is stored, or 0 where m is no member
+unfoldable pub stored_at : Specs → Map (Map (Option ℕ)) → ℕ → ℕ → ℕ
+stored_at S given v m = or_else (and_then (given v) (λ k. stores S k m)) 0
 
--- the first k places of row v completed
-unfoldable pub row_completed : Specs → List ℕ → ℕ → ℕ → List ℕ
-row_completed S rows v zero = rows
-row_completed S rows v (suc k) = let rest = row_completed S rows v k in set rest (v * 32 + k) (version_stored S k (get_or rest (v * 32 + k) 0))
+-- for each version a row of 32: the number at the place i
+abbrev pub row_number : Specs → Map (Map (Option ℕ)) → ℕ → ℕ
+row_number S given i = stored_at S given (i / 32) (i % 32)
 
--- the rows of the versions below k that are listed completed
-unfoldable pub rows_completed : Specs → List ℕ → Set → ℕ → List ℕ
-rows_completed S rows listed zero = rows
-rows_completed S rows listed (suc k) = let rest = rows_completed S rows listed k in if? listed k then row_completed S rest k 32 else rest
+-- the members at the version v, as a number, or 0 where it has no composition
+unfoldable pub members_at : Map (Kept (Found ℕ) 32) → ℕ → ℕ
+members_at given v = or_else (option_map (λ k. k.listed) (given v)) 0
 
--- at each version below k, of the members at it those below 32
-pub record LowMembers (members low : List ℕ) (k : ℕ) : Type 0 where
-  pub size : length low ≡ 64
-  pub set_is : (v : ℕ) → v < k → bit (get_or low v 0) ≡ below 32 (bit (get_or members v 0))
-  pub small : (v : ℕ) → v < k → get_or low v 0 < 2 ^ 32
+-- the first n of so many numbers are those that f gives
+pub record Filled (f : ℕ → ℕ) (size : ℕ) (xs : List ℕ) (n : ℕ) : Type 0 where
+  pub long : length xs ≡ size
+  pub is : (i : ℕ) → i < n → get_or xs i 0 ≡ f i

@@ -1,134 +1,107 @@
--- How rows are completed, place by place and row by row.
-use Rattle.std.specs.Prelude.{Bool, false, ◌≢◌, ◌≡◌, set}
-use Rattle.std.proofs.Math.Bool.{true}
-use mathlib.Core.List.{List}
+-- How the rows are completed, place by place.
+use Rattle.std.specs.Prelude.{None, Option as Found, Some, true, ◌≡◌, List, ◌%◌, ◌*◌, ◌+◌, ◌/◌, ◌<◌, ◌≤◌, ℕ, get_or, length, set}
 use Rattle.std.proofs.Math.Logic.{inl, inr}
-use Rattle.std.proofs.Common.{◌∙◌, le_antisymm, le_refl, not-suc-le-zero, arith, get_or-set_same}
-use Rattle.std.proofs.Math.Path.{ap, refl, sym}
-use Prim.Native.Nat.{◌*◌, ◌+◌, ◌<◌, ◌≤◌, suc, zero, ℕ}
-use Rattle.std.proofs.Math.Numerals.{add-one}
-use Rattle.std.proofs.Math.ListN.{get_or, length, length-set}
-use Rattle.std.proofs.Math.Seq.{get_or-set_other}
+use Rattle.std.proofs.Math.Option.{Option, some}
+use Rattle.std.proofs.Common.{◌∙◌, Fits, w8, arith, get_or-set_other, get_or-set_same, length-set, not-suc-le-zero}
+use Rattle.std.proofs.Math.Path.{ap, ap₂, refl, sym}
 use Rattle.book.specs.Plain.{plain_of}
-use Rattle.command_candidates.specs.Completed.{row_completed, rows_completed, version_stored}
-use Rattle.model.specs.Book.{Specs, standard}
-use Rattle.model.specs.Maps.{or_else}
-use Rattle.command_lists.specs.Views.{mark_said}
 use Rattle.book_rules.specs.Test.{passes}
 use Rattle.book_rules.specs.TestLaws.{passes_plain}
-use Rattle.sets.specs.Sets.{Set, bit}
-use Rattle.sets.specs.TestLaws.{<?_in, bool?, fails, <?_out, if-false, if-true, same?}
-use Rattle.sets.specs.Tests.{if?◌then◌else◌}
+use Rattle.command_candidates.specs.Completed.{Filled, members_at, row_number, stored_at}
+use Rattle.command_lists.specs.Answers.{stores}
+use Rattle.command_lists.specs.Gathered.{mapped}
+use Rattle.command_lists.specs.Views.{composition_of, composition_view, compositions_view, maybe, view}
+use Rattle.command_lists.specs.declared.gathered.Gathered.{Gathered as Kept}
+use Rattle.model.specs.Book.{Specs, standard}
+use Rattle.model.specs.Maps.{Map, and_then, option_map, or_else}
 use Rattle.model_laws.specs.Good.{passes→good}
 use Rattle.model_laws.specs.KeepSystems.{standard_lim}
+use Rattle.sets.specs.Answered.{answered}
+use Rattle.sets.specs.TestLaws.{same?}
 
 -- ---- one version
 
-pub version_said_lem : (S : Specs) (m mark : ℕ) → mark < 64 → mark ≡ version_stored S m mark
-unfolding version_stored mark_said or_else
-version_said_lem S m mark h = sym (ap (λ o. or_else o (standard S m)) (if-true _ _ _ (<?_in _ _ h)))
+pub version_given : (S : Specs) (m x : ℕ) (o : Found ℕ) → o ≡ Some x → x ≡ or_else (answered o) (standard S m)
+unfolding answered or_else
+version_given S m x o e = rw e refl
 
-pub version_left_out : (S : Specs) (m mark : ℕ) {r : ℕ} → 64 ≤ mark → r ≡ standard S m → r ≡ version_stored S m mark
-unfolding version_stored mark_said or_else
-version_left_out S m mark h e = e ∙ sym (ap (λ o. or_else o (standard S m)) (if-false _ _ _ (fails _ (λ t. omega (arith, h, <?_out _ _ t)))))
+pub version_left_out : (S : Specs) (m r : ℕ) (o : Found ℕ) → o ≡ None → r ≡ standard S m → r ≡ or_else (answered o) (standard S m)
+unfolding answered or_else
+version_left_out S m r o e q = rw e q
 
 -- the standard version is a byte
-pub standard-fits : (s n : List ℕ) (m : ℕ) {r : ℕ} → passes s n ≡ true → r ≡ standard (plain_of s n).specs m → r < 64
-standard-fits s n m t e = rw e (standard_lim (plain_of s n) (passes→good (passes_plain s n t)) m)
+pub standard_fits : (s n : List ℕ) (m : ℕ) {r : ℕ} → passes s n ≡ true → r ≡ standard (plain_of s n).specs m → Fits w8 r
+standard_fits s n m t e = let h = standard_lim (plain_of s n) (passes→good (passes_plain s n t)) m in rw e (omega (arith, h))
 
--- ---- one row
+module _ (S : Specs) (g : Kept (Kept (Found ℕ) 32) 64) (v m : ℕ) where
+  abbrev At : ℕ → Type 0
+  At x = x ≡ stored_at S (compositions_view g).given v m
 
-module _ (S : Specs) (rows : List ℕ) (v : ℕ) where
-  pub row_start : rows ≡ row_completed S rows v 0
-  unfolding row_completed
-  row_start = refl
+  pub stored_none : maybe None ≡ (view g).given v → At 0
+  unfolding stored_at compositions_view mapped maybe and_then or_else option_map
+  stored_none e = ap (λ o. or_else (and_then (option_map composition_of o) (λ k. stores S k m)) 0) e
 
-  pub row_turn : (k : ℕ) {x : List ℕ} {w : ℕ} → x ≡ row_completed S rows v k → w ≡ version_stored S k (get_or x (v * 32 + k) 0)
-      → set x (v * 32 + k) w ≡ row_completed S rows v (k + 1)
-  unfolding row_completed
-  row_turn k e q = rw (add-one, q, e)
+  module _ (k : Kept (Found ℕ) 32) (here : maybe (Some k) ≡ (view g).given v) where
+    pub at_composition : stored_at S (compositions_view g).given v m ≡ or_else (stores S (composition_of k) m) 0
+    unfolding stored_at compositions_view mapped maybe and_then option_map
+    at_composition = sym (ap (λ o. or_else (and_then (option_map composition_of o) (λ k. stores S k m)) 0) here)
 
-  pub row_end : (k : ℕ) {x : List ℕ} → k ≤ 32 → 32 ≤ k → x ≡ row_completed S rows v k → x ≡ row_completed S rows v 32
-  row_end k h₁ h₂ e = e ∙ ap (row_completed S rows v) (le_antisymm h₁ h₂)
+    pub stored_no_member : maybe None ≡ (view k).given m → At 0
+    unfolding composition_of composition_view mapped maybe option_map or_else stores
+    stored_no_member e = ap (λ o. or_else (option_map (λ x. or_else x (standard S m)) (option_map answered o)) 0) e ∙ sym at_composition
 
-  pub row_length : (k : ℕ) → length (row_completed S rows v k) ≡ length rows
-  unfolding row_completed
-  row_length zero = refl
-  row_length (suc k) = simp length-set (row_length k)
+    pub stored_member : (x : ℕ) (given : Found ℕ) → maybe (Some given) ≡ (view k).given m → x ≡ or_else (answered given) (standard S m) → At x
+    unfolding composition_of composition_view mapped maybe option_map or_else stores
+    stored_member x given e q =
+        q ∙ ap (λ o. or_else (option_map (λ x. or_else x (standard S m)) (option_map answered o)) 0) e ∙ sym at_composition
 
-  -- a place that is none of the row's first k
-  pub row_other : (k x : ℕ) → ((j : ℕ) → j < k → x ≢ v * 32 + j) → get_or (row_completed S rows v k) x 0 ≡ get_or rows x 0
-  unfolding row_completed
-  row_other zero x ne = refl
-  row_other (suc k) x ne = get_or-set_other (row_completed S rows v k) (v * 32 + k) x _ 0 (ne k (le_refl (suc k))) ∙ row_other k x (λ j h. ne j (omega arith))
+-- ---- the numbers filled in, place by place
 
-  pub row_same : (k m : ℕ) → length rows ≡ 2048 → v < 64 → k ≤ 32 → m < k
-      → get_or (row_completed S rows v k) (v * 32 + m) 0 ≡ version_stored S m (get_or rows (v * 32 + m) 0)
-  unfolding row_completed
-  row_same zero m len hv h l = absurd (not-suc-le-zero l)
-  row_same (suc k) m len hv h l = elim (same? m k) [
-    | inl e ↦ rw e (get_or-set_same (row_completed S rows v k) (v * 32 + k) (version_stored S k (get_or (row_completed S rows v k) (v * 32 + k) 0)) 0 (omega (arith, row_length k))
-        ∙ ap (version_stored S k) (row_other k (v * 32 + k) (λ j h q. omega (arith, h, q))))
-    | inr ne ↦ get_or-set_other (row_completed S rows v k) (v * 32 + k) (v * 32 + m) (version_stored S k (get_or (row_completed S rows v k) (v * 32 + k) 0)) 0 (omega arith)
-        ∙ row_same k m len hv (omega arith) (omega arith)
-  ]
+module _ (f : ℕ → ℕ) (size : ℕ) (xs : List ℕ) where
+  pub filled_start : length xs ≡ size → Filled f size xs 0
+  filled_start h = record { long = h; is = λ i l. absurd (not-suc-le-zero l) }
 
--- ---- the rows of the versions listed
+  pub filled_turn : (i x : ℕ) → i < size → Filled f size xs i → x ≡ f i → Filled f size (set xs i x) (i + 1)
+  filled_turn i x h r e = record {
+    long = length-set xs i x ∙ r.long;
+    is = λ j l. elim (same? j i) [
+      | inl q ↦ rw q (get_or-set_same xs i x 0 (omega (arith, h, r.long)) ∙ e)
+      | inr q ↦ get_or-set_other xs i j x 0 q ∙ r.is j (omega (arith, l, q))
+    ];
+  }
 
-module _ (S : Specs) (rows : List ℕ) (s : ℕ) where
-  pub rows_start : rows ≡ rows_completed S rows (bit s) 0
-  unfolding rows_completed
-  rows_start = refl
+  pub filled_end : (i : ℕ) → size ≤ i → Filled f size xs i → Filled f size xs size
+  filled_end i h r = record { long = r.long; is = λ j l. r.is j (omega (arith, l, h)) }
 
-  pub rows_turn : (k : ℕ) {x y : List ℕ} {t : Bool} → x ≡ rows_completed S rows (bit s) k → t ≡ bit s k → t ≡ true → y ≡ row_completed S x k 32
-      → y ≡ rows_completed S rows (bit s) (k + 1)
-  unfolding rows_completed
-  rows_turn k e m t q = rw add-one (q ∙ ap (λ (l : List ℕ). row_completed S l k 32) e ∙ sym (if-true _ _ _ (sym m ∙ t)))
+-- ---- a row, and the members at a version
 
-  pub rows_skip : (k : ℕ) {x : List ℕ} {t : Bool} → x ≡ rows_completed S rows (bit s) k → t ≡ bit s k → t ≡ false → x ≡ rows_completed S rows (bit s) (k + 1)
-  unfolding rows_completed
-  rows_skip k e m t = rw add-one (e ∙ sym (if-false _ _ _ (sym m ∙ t)))
+pub row_stored : (S : Specs) (given : Map (Map (Option ℕ))) (rows : List ℕ) (v m : ℕ) → Filled (row_number S given) 2048 rows 2048 → v < 64 → m < 32
+    → get_or rows (v * 32 + m) 0 ≡ stored_at S given v m
+row_stored S given rows v m r hv hm = r.is (v * 32 + m) (omega (arith, hv, hm)) ∙ ap₂ (stored_at S given) quotient rest
+  where
+    quotient : (v * 32 + m) / 32 ≡ v
+    quotient = omega (arith, hm)
 
-  pub rows_end : (k : ℕ) {x : List ℕ} → k ≤ 64 → 64 ≤ k → x ≡ rows_completed S rows (bit s) k → x ≡ rows_completed S rows (bit s) 64
-  rows_end k h₁ h₂ e = e ∙ ap (rows_completed S rows (bit s)) (le_antisymm h₁ h₂)
+    rest : (v * 32 + m) % 32 ≡ m
+    rest = omega (arith, hm)
 
-module _ (S : Specs) (rows : List ℕ) (vs : Set) (len : length rows ≡ 2048) where
-  rows_length : (k : ℕ) → length (rows_completed S rows vs k) ≡ length rows
-  unfolding rows_completed
-  rows_length zero = refl
-  rows_length (suc k) = elim (bool? (vs k)) [
-    | inl t ↦ ap length (if-true _ _ _ t) ∙ row_length S (rows_completed S rows vs k) k 32 ∙ rows_length k
-    | inr z ↦ ap length (if-false _ _ _ z) ∙ rows_length k
-  ]
+module _ (given : Map (Kept (Found ℕ) 32)) (v : ℕ) where
+  pub members_listed : (k : Kept (Found ℕ) 32) → given v ≡ some k → members_at given v ≡ k.listed
+  unfolding members_at option_map or_else
+  members_listed k e = ap (λ o. or_else (option_map (λ (z : Kept (Found ℕ) 32). z.listed) o) 0) e
 
-  -- a row from k on
-  rows_other : (k v m : ℕ) → k ≤ v → m < 32 → get_or (rows_completed S rows vs k) (v * 32 + m) 0 ≡ get_or rows (v * 32 + m) 0
-  unfolding rows_completed
-  rows_other zero v m h l = refl
-  rows_other (suc k) v m h l = elim (bool? (vs k)) [
-    | inl t ↦ ap (λ (x : List ℕ). get_or x (v * 32 + m) 0) (if-true _ _ _ t)
-        ∙ row_other S (rows_completed S rows vs k) k 32 (v * 32 + m) (λ j hj q. omega (arith, h, l, hj, q)) ∙ rows_other k v m (omega arith) l
-    | inr z ↦ ap (λ (x : List ℕ). get_or x (v * 32 + m) 0) (if-false _ _ _ z) ∙ rows_other k v m (omega arith) l
-  ]
+  pub members_some : (k : Kept (Found ℕ) 32) → maybe (Some k) ≡ given v → k.listed ≡ members_at given v
+  unfolding maybe
+  members_some k e = sym (members_listed k (sym e))
 
-  -- a row that is listed
-  pub rows_same : (k v m : ℕ) → k ≤ 64 → v < k → vs v ≡ true → m < 32
-      → get_or (rows_completed S rows vs k) (v * 32 + m) 0 ≡ version_stored S m (get_or rows (v * 32 + m) 0)
-  unfolding rows_completed
-  rows_same zero v m h l t m< = absurd (not-suc-le-zero l)
-  rows_same (suc k) v m h l t m< = elim (same? v k) [
-    | inl e ↦ rw e (here (sym (ap vs e) ∙ t))
-    | inr ne ↦ elim (bool? (vs k)) [
-      | inl y ↦ ap (λ (x : List ℕ). get_or x (v * 32 + m) 0) (if-true _ _ _ y)
-          ∙ row_other S (rows_completed S rows vs k) k 32 (v * 32 + m) (λ j hj q. ne (omega (arith, m<, hj, q)))
-          ∙ rows_same k v m (omega arith) (omega arith) t m<
-      | inr z ↦ ap (λ (x : List ℕ). get_or x (v * 32 + m) 0) (if-false _ _ _ z) ∙ rows_same k v m (omega arith) (omega arith) t m<
-    ]
-  ]
-    where
-      here : vs k ≡ true → get_or (if? vs k then row_completed S (rows_completed S rows vs k) k 32 else rows_completed S rows vs k) (k * 32 + m) 0
-          ≡ version_stored S m (get_or rows (k * 32 + m) 0)
-      here y =
-          ap (λ (x : List ℕ). get_or x (k * 32 + m) 0) (if-true _ _ _ y)
-          ∙ row_same S (rows_completed S rows vs k) k 32 m (rows_length k ∙ len) h (le_refl 32) m<
-          ∙ ap (version_stored S m) (rows_other k k m (le_refl k) m<)
+  pub members_none : maybe None ≡ given v → 0 ≡ members_at given v
+  unfolding maybe members_at option_map or_else
+  members_none e = ap (λ o. or_else (option_map (λ (z : Kept (Found ℕ) 32). z.listed) o) 0) e
+
+pub ruleset version = (version_given, version_left_out, standard_fits)
+
+pub ruleset place = (stored_none, stored_no_member, stored_member)
+
+pub ruleset places = (filled_start, filled_turn, filled_end)
+
+pub ruleset members = (members_some, members_none)

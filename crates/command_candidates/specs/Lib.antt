@@ -1,4 +1,3 @@
+pub mod CandidateLaws
 pub mod Completed
 pub mod CompletedLaws
-pub mod MemberLaws
-pub mod CandidateLaws

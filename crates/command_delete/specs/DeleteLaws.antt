@@ -1,133 +1,112 @@
 -- The answers of the commands that take out, from their questions.
-use Rattle.std.specs.Prelude.{Bool, false, not, true, List, [], ◌∷◌, ◌≢◌, ◌≡◌, refl, ◌<◌, ◌≤◌, ℕ}
-use Rattle.std.proofs.Common.{◌∙◌, ap, subst}
+use Rattle.std.specs.Prelude.{Bool, ◌&&◌, not, true, List, [], ◌++◌, ◌∷◌, ◌≢◌, ◌≡◌, refl, ◌+◌, ◌<◌, ℕ, eqb, ltb, false}
+use Rattle.std.proofs.Common.{◌∙◌, ap, arith, subst}
 use Rattle.std.proofs.Math.Path.{sym}
-use borrow.Author.Tests.{not-false, not-true}
-use Rattle.model_laws.specs.FirstNoLaws.{no_at, not_yes, too_large, yes_at}
+use Rattle.std.proofs.lemmas.Bool.{not-false, not-true}
+use Rattle.book.specs.Changes.{HoldsVersion}
+use Rattle.book.specs.Plain.{plain_of}
+use Rattle.book_rules.specs.Test.{passes}
+use Rattle.book_rules.specs.TestLaws.{passes-proper}
+use Rattle.command_delete.specs.Asked.{kind_asked, version_asked}
+use Rattle.command_outcome.specs.AskedLaws.{asked_before, next}
 use Rattle.model.specs.Book.{Book, has_version, is_module, is_system, specified, standard}
 use Rattle.model.specs.Commands.{DEL-MOD, DEL-MODVAR, DEL-SPEC, DEL-SYS, DEL-SYSVAR, after}
 use Rattle.model.specs.Limits.{Passes}
 use Rattle.model.specs.PlainBook.{answer}
 use Rattle.model.specs.Questions.{Question, first_no, held_by_none, in_limits, questions, usable_in_none}
-use Rattle.model.specs.Rules.{B4, B5_to_B9, p}
-use Rattle.sets.specs.TestLaws.{<?_in, =?-in, =?-not, and-false, and_in, and-true, not_in}
-use Rattle.sets.specs.Tests.{◌&◌, ◌<?◌, ◌=?◌, ~◌}
+use Rattle.model.specs.Rules.{B4, B5_to_B9}
+use Rattle.model_laws.specs.Accepted.{EachYes, all_yes}
+use Rattle.model_laws.specs.FirstNoLaws.{no_at, none_left, others_asked, yes_at}
 use Rattle.model_laws.specs.Good.{passes→good}
 use Rattle.model_laws.specs.KeepSystems.{less_B4}
+use Rattle.sets.specs.TestLaws.{<?_out, and_l}
+use Rattle.sets.specs.Tests.{◌&◌, ◌<?◌, ◌=?◌, ~◌}
 
--- DEL-SPEC: 1, 4, 18
+-- ---- the tables
+
+pub spec_asked : (b : Book) (c : ℕ) (sp u : Bool) {r : ℕ} → sp ≡ specified b.specs c → u ≡ usable_in_none b c
+    → r ≡ first_no ((1, ltb c 32) ∷ (4, sp) ∷ (18, u) ∷ []) → r ≡ answer b (DEL-SPEC c)
+unfolding answer questions in_limits ◌<?◌
+spec_asked b c sp u e₄ e₁₈ q = q ∙ next 1 {a = ltb c 32} _ _ refl (next 4 _ _ e₄ (next 18 [] [] e₁₈ refl))
+
+pub kind_asked_lem : (c m : ℕ) (t : Bool) {r : ℕ} → r ≡ first_no ((1, ltb c 32) ∷ (m, t) ∷ []) → r ≡ first_no (kind_asked c m t)
+unfolding kind_asked ◌<?◌
+kind_asked_lem c m t q = q
+
+pub version_asked_lem : (b : Book) (c v m : ℕ) (t hv hn : Bool) (x : ℕ) {r : ℕ} → hv ≡ has_version b.specs c v → x ≡ standard b.specs c
+    → hn ≡ held_by_none b c v
+    → r ≡ first_no ((1, ltb c 32 && ltb v 64) ∷ (m, t) ∷ (10, hv) ∷ (15, not (eqb v x)) ∷ (18, hn) ∷ [])
+    → r ≡ first_no (version_asked b c v m t)
+unfolding version_asked ◌&◌ ◌<?◌ ◌=?◌ ~◌
+version_asked_lem b c v m t hv hn x e₁₀ x_is e₁₈ q =
+    q ∙ next 1 {a = ltb c 32 && ltb v 64} _ _ refl (next m {a = t} _ _ refl (next 10 _ _ e₁₀ (next 15 _ _ (ap (λ (y : ℕ). not (eqb v y)) x_is)
+    (next 18 [] [] e₁₈ refl))))
+
+-- ---- what an answer of 0 gives
+
 module _ (b : Book) (c : ℕ) where
-  pub del_spec_1 : 32 ≤ c → answer b (DEL-SPEC c) ≡ 1
+  pub spec_limit : 0 ≡ answer b (DEL-SPEC c) → c < 32
   unfolding answer questions in_limits
-  del_spec_1 h = no_at 1 _ _ (too_large _ _ h)
+  spec_limit z = <?_out _ _ (all_yes ((1, c <? 32) ∷ (4, specified b.specs c) ∷ (18, usable_in_none b c) ∷ []) (omega arith) (sym z)).0
 
-  pub del_spec_4 : {r : Bool} → c < 32 → r ≡ specified b.specs c → not r ≡ true → answer b (DEL-SPEC c) ≡ 4
-  unfolding answer questions in_limits
-  del_spec_4 {r} h e z = yes_at 1 _ _ (<?_in _ _ h) ∙ no_at 4 _ _ (sym e ∙ not-true r z)
+module _ (c m : ℕ) (t : Bool) (zero : 0 ≡ first_no (kind_asked c (1 + m) t)) where
+  pub kind_yes : (c < 32) × (t ≡ true)
+  unfolding kind_asked
+  kind_yes = let y = all_yes (kind_asked c (1 + m) t) (omega arith) (sym zero) in (<?_out _ _ y.0, y.1.0)
 
-  pub del_spec_18 : {r u : Bool} → c < 32 → r ≡ specified b.specs c → not r ≡ false → u ≡ usable_in_none b c → not u ≡ true → answer b (DEL-SPEC c) ≡ 18
-  unfolding answer questions in_limits
-  del_spec_18 {r} {u} h e y e' z = yes_at 1 _ _ (<?_in _ _ h) ∙ yes_at 4 _ _ (sym e ∙ not-false r y) ∙ no_at 18 _ _ (sym e' ∙ not-true u z)
+pub mod_asked : (b : Book) (c : ℕ) (t : Bool) {r : ℕ} → t ≡ is_module b.modules c → r ≡ first_no (kind_asked c 6 t) → r ≡ answer b (DEL-MOD c)
+unfolding answer questions in_limits kind_asked
+mod_asked b c t e q = q ∙ ap (λ (x : Bool). first_no (kind_asked c 6 x)) e
 
-  pub del_spec_0 : {r u : Bool} → c < 32 → r ≡ specified b.specs c → not r ≡ false → u ≡ usable_in_none b c → not u ≡ false → answer b (DEL-SPEC c) ≡ 0
-  unfolding answer questions in_limits
-  del_spec_0 {r} {u} h e y e' y' =
-      yes_at 1 _ _ (<?_in _ _ h) ∙ yes_at 4 _ _ (sym e ∙ not-false r y) ∙ yes_at 18 _ _ (sym e' ∙ not-false u y') ∙ (unfold first_no in refl)
+-- ---- DEL-SYS: 21 is put to the book afterwards
 
--- DEL-MOD: 1, 6
-module _ (b : Book) (c : ℕ) where
-  pub del_mod_1 : 32 ≤ c → answer b (DEL-MOD c) ≡ 1
-  unfolding answer questions in_limits
-  del_mod_1 h = no_at 1 _ _ (too_large _ _ h)
+module _ (b : Book) (c : ℕ) (t : Bool) (is : t ≡ is_system b.systems c) where
+  abbrev afterwards : List Question
+  afterwards = (21, B5_to_B9 (after b (DEL-SYS c))) ∷ []
 
-  pub del_mod_6 : {r : Bool} → c < 32 → r ≡ is_module b.modules c → not r ≡ true → answer b (DEL-MOD c) ≡ 6
-  unfolding answer questions in_limits
-  del_mod_6 {r} h e z = yes_at 1 _ _ (<?_in _ _ h) ∙ no_at 6 _ _ (sym e ∙ not-true r z)
+  two_parts : answer b (DEL-SYS c) ≡ first_no (kind_asked c 7 t ++ afterwards)
+  unfolding answer questions in_limits kind_asked
+  two_parts = sym (ap (λ (x : Bool). first_no (kind_asked c 7 x ++ afterwards)) is)
 
-  pub del_mod_0 : {r : Bool} → c < 32 → r ≡ is_module b.modules c → not r ≡ false → answer b (DEL-MOD c) ≡ 0
-  unfolding answer questions in_limits
-  del_mod_0 {r} h e y = yes_at 1 _ _ (<?_in _ _ h) ∙ yes_at 6 _ _ (sym e ∙ not-false r y) ∙ (unfold first_no in refl)
+  pub sys_refused : (r : ℕ) → r ≡ first_no (kind_asked c 7 t) → r ≢ 0 → r ≡ answer b (DEL-SYS c)
+  sys_refused r e ne = sym (two_parts ∙ asked_before (kind_asked c 7 t) afterwards r e ne)
 
--- DEL-SYS: 1, 7, 21
-module _ (b : Book) (c : ℕ) where
-  pub del_sys_1 : 32 ≤ c → answer b (DEL-SYS c) ≡ 1
-  unfolding answer questions in_limits
-  del_sys_1 h = no_at 1 _ _ (too_large _ _ h)
+  module _ (zero : 0 ≡ first_no (kind_asked c 7 t)) where
+    go_on : answer b (DEL-SYS c) ≡ first_no afterwards
+    unfolding kind_asked
+    go_on = two_parts ∙ others_asked (kind_asked c 7 t) afterwards (omega arith) (sym zero)
 
-  pub del_sys_7 : {r : Bool} → c < 32 → r ≡ is_system b.systems c → not r ≡ true → answer b (DEL-SYS c) ≡ 7
-  unfolding answer questions in_limits
-  del_sys_7 {r} h e z = yes_at 1 _ _ (<?_in _ _ h) ∙ no_at 7 _ _ (sym e ∙ not-true r z)
+    module _ (b' : Book) (left : b' ≡ after b (DEL-SYS c)) {u : Bool} (e : u ≡ B5_to_B9 b') where
+      pub sys_21 : not u ≡ true → answer b (DEL-SYS c) ≡ 21
+      sys_21 z = go_on ∙ no_at 21 _ _ (sym (ap B5_to_B9 left) ∙ sym e ∙ not-true u z)
 
-  module _ {r u : Bool} (b' : Book) (h : c < 32) (e : r ≡ is_system b.systems c) (y : not r ≡ false) (left : b' ≡ after b (DEL-SYS c))
-      (e' : u ≡ B5_to_B9 b') where
-    pub del_sys_21 : not u ≡ true → answer b (DEL-SYS c) ≡ 21
-    unfolding answer questions in_limits
-    del_sys_21 z =
-        yes_at 1 _ _ (<?_in _ _ h) ∙ yes_at 7 _ _ (sym e ∙ not-false r y)
-        ∙ no_at 21 _ _ (sym (ap B5_to_B9 left) ∙ sym e' ∙ not-true u z)
-
-    pub del_sys_0 : not u ≡ false → answer b (DEL-SYS c) ≡ 0
-    unfolding answer questions in_limits
-    del_sys_0 z =
-        yes_at 1 _ _ (<?_in _ _ h) ∙ yes_at 7 _ _ (sym e ∙ not-false r y)
-        ∙ yes_at 21 _ _ (sym (ap B5_to_B9 left) ∙ sym e' ∙ not-false u z) ∙ (unfold first_no in refl)
+      pub sys_0 : not u ≡ false → answer b (DEL-SYS c) ≡ 0
+      sys_0 z = go_on ∙ yes_at 21 _ _ (sym (ap B5_to_B9 left) ∙ sym e ∙ not-false u z) ∙ none_left
 
 -- B4 holds in what DEL-SYS leaves
 pub del_sys_B4 : (b b' : Book) (c : ℕ) → Passes b → b' ≡ after b (DEL-SYS c) → B4 b'.systems ≡ true
 unfolding after
 del_sys_B4 b b' c p e = subst (λ (x : Book). B4 x.systems ≡ true) (sym e) (less_B4 b (passes→good p) c)
 
--- DEL-MODVAR and DEL-SYSVAR: 1, m, 10, 15, 18, where t answers the question m
-unfoldable pub version_out : Book → ℕ → ℕ → ℕ → Bool → List Question
-version_out b c v m t =
-    (1, c <? 32 & v <? 64) ∷ (m, t) ∷ (10, has_version b.specs c v) ∷ (15, ~ (v =? standard b.specs c)) ∷ (18, held_by_none b c v) ∷ []
+-- ---- DEL-MODVAR and DEL-SYSVAR
 
-pub modvar_out : (b : Book) (c v : ℕ) → answer b (DEL-MODVAR c v) ≡ first_no (version_out b c v 6 (is_module b.modules c))
-unfolding answer questions in_limits version_out
-modvar_out b c v = refl
+pub modvar_asked : (b : Book) (c v : ℕ) (t : Bool) {r : ℕ} → t ≡ is_module b.modules c → r ≡ first_no (version_asked b c v 6 t) → r ≡ answer b (DEL-MODVAR c v)
+unfolding answer questions in_limits version_asked
+modvar_asked b c v t e q = q ∙ ap (λ (x : Bool). first_no (version_asked b c v 6 x)) e
 
-pub sysvar_out : (b : Book) (c v : ℕ) → answer b (DEL-SYSVAR c v) ≡ first_no (version_out b c v 7 (is_system b.systems c))
-unfolding answer questions in_limits version_out
-sysvar_out b c v = refl
+pub sysvar_asked : (b : Book) (c v : ℕ) (t : Bool) {r : ℕ} → t ≡ is_system b.systems c → r ≡ first_no (version_asked b c v 7 t) → r ≡ answer b (DEL-SYSVAR c v)
+unfolding answer questions in_limits version_asked
+sysvar_asked b c v t e q = q ∙ ap (λ (x : Bool). first_no (version_asked b c v 7 x)) e
 
-module _ (b : Book) (c v m : ℕ) (t : Bool) where
-  pub out_1 : 32 ≤ c → first_no (version_out b c v m t) ≡ 1
-  unfolding version_out
-  out_1 h = no_at 1 _ _ (and-false _ _ (too_large _ _ h))
+module _ (s n : List ℕ) (c v m : ℕ) (t : Bool) (zero : 0 ≡ first_no (version_asked (plain_of s n) c v (1 + m) t)) where
+  version_yes : EachYes (version_asked (plain_of s n) c v (1 + m) t)
+  unfolding version_asked
+  version_yes = all_yes (version_asked (plain_of s n) c v (1 + m) t) (omega arith) (sym zero)
 
-  module _ (c< : c < 32) where
-    pub out_1v : 64 ≤ v → first_no (version_out b c v m t) ≡ 1
-    unfolding version_out
-    out_1v h = no_at 1 _ _ (and-true _ _ (<?_in _ _ c<) ∙ too_large _ _ h)
+  pub version_kind : t ≡ true
+  unfolding version_asked
+  version_kind = version_yes.1.0
 
-    module _ (v< : v < 64) {r : Bool} (e : r ≡ t) where
-      pub out_kind : not r ≡ true → first_no (version_out b c v m t) ≡ m
-      unfolding version_out
-      out_kind z = yes_at 1 _ _ (and_in _ _ (<?_in _ _ c<) (<?_in _ _ v<)) ∙ no_at m _ _ (sym e ∙ not-true r z)
-
-      module _ (y : not r ≡ false) {h : Bool} (eh : h ≡ has_version b.specs c v) where
-        pub out_10 : not h ≡ true → first_no (version_out b c v m t) ≡ 10
-        unfolding version_out
-        out_10 z =
-            yes_at 1 _ _ (and_in _ _ (<?_in _ _ c<) (<?_in _ _ v<)) ∙ yes_at m _ _ (sym e ∙ not-false r y)
-            ∙ no_at 10 _ _ (sym eh ∙ not-true h z)
-
-        module _ (yh : not h ≡ false) (x : ℕ) (es : x ≡ standard b.specs c) where
-          past_10 : first_no (version_out b c v m t) ≡ first_no ((15, ~ (v =? standard b.specs c)) ∷ (18, held_by_none b c v) ∷ [])
-          unfolding version_out
-          past_10 =
-              yes_at 1 _ _ (and_in _ _ (<?_in _ _ c<) (<?_in _ _ v<)) ∙ yes_at m _ _ (sym e ∙ not-false r y)
-              ∙ yes_at 10 _ _ (sym eh ∙ not-false h yh)
-
-          pub out_15 : x ≡ v → first_no (version_out b c v m t) ≡ 15
-          out_15 z = past_10 ∙ no_at 15 _ _ (not_yes _ (=?-in _ _ (sym z ∙ es)))
-
-          module _ (other : x ≢ v) {u : Bool} (eu : u ≡ held_by_none b c v) where
-            past_15 : first_no (version_out b c v m t) ≡ first_no ((18, held_by_none b c v) ∷ [])
-            past_15 = past_10 ∙ yes_at 15 _ _ (not_in _ (=?-not _ _ (λ q. other (es ∙ sym q))))
-
-            pub out_18 : not u ≡ true → first_no (version_out b c v m t) ≡ 18
-            out_18 z = past_15 ∙ no_at 18 _ _ (sym eu ∙ not-true u z)
-
-            pub out_0 : not u ≡ false → first_no (version_out b c v m t) ≡ 0
-            out_0 z = past_15 ∙ yes_at 18 _ _ (sym eu ∙ not-false u z) ∙ (unfold first_no in refl)
+  pub version_held : passes s n ≡ true → HoldsVersion s n c v
+  unfolding version_asked
+  version_held good = record { component< = <?_out _ _ (and_l _ _ version_yes.0); is_proper = passes-proper s n good; is_there = version_yes.1.1.0 }

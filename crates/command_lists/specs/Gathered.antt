@@ -3,7 +3,7 @@
 -- the usable components.
 use Rattle.std.specs.Prelude.{Bool, false, true, List, [], ◌∷◌, ℕ}
 use Rattle.std.proofs.Math.Option.{none}
-use Rattle.model.specs.Maps.{Map, else_try, is_some, only_if}
+use Rattle.model.specs.Maps.{Map, else_try, is_some, only_if, option_map}
 use Rattle.sets.specs.Sets.{Set}
 use Rattle.sets.specs.Tests.{◌&◌, ◌<?◌, ◌=?◌, ◌or◌, if?◌then◌else◌, ~◌}
 
@@ -25,6 +25,14 @@ listed g v = is_some (g.given v)
 abbrev pub nothing : {B : Type 0} → Gathered B
 nothing = record { large = false; empty = false; twice = false; given = λ v. none }
 
+-- one entry more, which is not below its limit
+unfoldable pub large_of : {B : Type 0} → Gathered B → Gathered B
+large_of g = record { large = true; empty = g.empty; twice = g.twice; given = g.given }
+
+-- the same with what f makes of what stands beside each number
+unfoldable pub mapped : {A B : Type 0} → (A → B) → Gathered A → Gathered B
+mapped f g = record { large = g.large; empty = g.empty; twice = g.twice; given = λ v. option_map f (g.given v) }
+
 -- The numbers are below n. Beside a number stands an a: `good a`, its numbers are below their limits; `full a`, it is not empty;
 -- `single a`, no number stands twice in it; `what a` is kept of it.
 module _ {A B : Type 0} (n : ℕ) (good full single : A → Bool) (what : A → B) where
@@ -36,7 +44,7 @@ module _ {A B : Type 0} (n : ℕ) (good full single : A → Bool) (what : A → 
         empty = g.empty or ~ full x.1;
         twice = g.twice or (listed g x.0 or ~ single x.1);
         given = λ v. else_try (g.given v) (only_if (v =? x.0) (what x.1));
-      } else record { large = true; empty = g.empty; twice = g.twice; given = g.given }
+      } else large_of g
 
   unfoldable pub gather : Gathered B → List (ℕ × A) → Gathered B
   gather g [] = g

@@ -8,7 +8,7 @@ use Rattle.std.proofs.Common.{◌∙◌}
 use Rattle.std.proofs.Math.Path.{ap, fun_ext, refl, sym}
 use Rattle.model.specs.Lists.{beside, elem, every, firsts, once, seconds}
 use Rattle.model.specs.Maps.{else_try, is_some, only_if, option_map}
-use Rattle.command_lists.specs.Gathered.{Gathered, gather, listed, nothing, step}
+use Rattle.command_lists.specs.Gathered.{Gathered, gather, large_of, listed, nothing, step}
 use Rattle.sets.specs.Sets.{Set}
 use Rattle.sets.specs.TestLaws.{=?-in, =?-out, and_l, and_r, bool?, if-false, if-true, iff→≡}
 use Rattle.sets.specs.Tests.{◌&◌, ◌<?◌, ◌=?◌, ◌or◌, if?◌then◌else◌, ~◌}
@@ -124,13 +124,12 @@ module _ {A B : Type 0} (n : ℕ) (good full single : A → Bool) (what : A → 
     unfolding step
     step_in e = if-true _ _ _ e
 
-    pub step_out : (x.0 <? n & good x.1) ≡ false
-        → next g x ≡ record { large = true; empty = g.empty; twice = g.twice; given = g.given }
+    pub step_out : (x.0 <? n & good x.1) ≡ false → next g x ≡ large_of g
     unfolding step
     step_out e = if-false _ _ _ e
 
     step_large : (next g x).large ≡ (g.large or ~ entry_below x)
-    unfolding entry_below
+    unfolding entry_below large_of
     step_large = elim (bool? (x.0 <? n & good x.1)) [
       | inl e ↦ ap (λ (h : Gathered B). h.large) (step_in e) ∙ sym (ap (λ (z : Bool). g.large or ~ z) e ∙ (unfold ~◌ in or_nothing _))
       | inr e ↦ ap (λ (h : Gathered B). h.large) (step_out e) ∙ sym (ap (λ (z : Bool). g.large or ~ z) e ∙ (unfold ~◌ in or-true _))

@@ -1,8 +1,9 @@
-pub mod Gathered
-pub mod Said
-pub mod Views
-pub mod GatheredLaws
-pub mod ViewLaws
-pub mod CompositionLaws
-pub mod Answers
 pub mod AnswerLaws
+pub mod Answers
+pub mod CompositionLaws
+pub mod Gathered
+pub mod GatheredLaws
+pub mod Said
+pub mod MappedLaws
+pub mod ViewLaws
+pub mod Views

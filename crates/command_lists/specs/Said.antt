@@ -16,6 +16,13 @@ use Rattle.sets.specs.Tests.{◌&◌, ◌<?◌, ◌=?◌, ◌≤?◌, if?◌then
 unfoldable pub always : {A : Type 0} → A → Bool
 always a = true
 
+-- a number below n with what stands beside it, whatever this is
+unfoldable pub itself : {A : Type 0} → A → A
+itself a = a
+
+unfoldable pub plain_step : {A : Type 0} → ℕ → Gathered A → ℕ × A → Gathered A
+plain_step n = step n always always always itself
+
 -- versions with the facilities that each requires
 unfoldable pub sets_step : Gathered Set → ℕ × List ℕ → Gathered Set
 sets_step = step versions (each_below facilities) always always set_of
@@ -26,9 +33,6 @@ sets_of vs = gather versions (each_below facilities) always always set_of nothin
 -- versions with their implementations
 unfoldable pub is_implementation : ℕ → Bool
 is_implementation i = i <? implementations
-
-unfoldable pub itself : {A : Type 0} → A → A
-itself a = a
 
 unfoldable pub numbers_step : Gathered ℕ → ℕ × ℕ → Gathered ℕ
 numbers_step = step versions is_implementation always always itself

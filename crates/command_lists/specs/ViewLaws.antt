@@ -1,41 +1,70 @@
 -- One entry more, as the code writes it, is one step of gathering.
-use Rattle.std.specs.Prelude.{Bool, List, ◌≢◌, ◌≡◌, ◌<◌, ◌^◌, ◌≤◌, ℕ, length, replicate, set}
+use Rattle.std.specs.Prelude.{Bool, None, Some, get_or, List, [], ◌∷◌, ◌≢◌, ◌≡◌, ◌%◌, ◌<◌, ◌^◌, ◌≤◌, zero, suc, ℕ, length, set}
 use Rattle.std.proofs.Math.Bool.{false, true}
-use Rattle.std.proofs.Common.{inl, ◌∙◌, arith, get_or-set_other, get_or-set_same}
-use Rattle.std.proofs.Math.Logic.{inr}
+use Rattle.std.proofs.Math.Logic.{inl, inr}
+use Rattle.std.proofs.Common.{◌∙◌, arith, lt_of_lt_of_le, mod-lt, not-suc-le-zero, pow_mono, pow_pos}
 use Rattle.std.proofs.Math.Option.{Option, none, some}
 use Rattle.std.proofs.Math.Path.{ap, ap₂, fun_ext, refl, sym}
-use Rattle.book.specs.Plain.{byte, facility_set}
-use Rattle.book.specs.SlotLaws.{only_no, only_yes}
-use Rattle.model.specs.Book.{components, facilities, versions}
-use Rattle.model.specs.Lists.{set_of}
-use Rattle.model.specs.Maps.{Map, else_try, if_there, is_some, only_if}
-use Rattle.model.specs.Questions.{each_below}
-use Rattle.command_lists.specs.Gathered.{Gathered, listed, nothing, step}
+use Rattle.model.specs.Maps.{Map, else_try, is_some, only_if, option_map}
+use Rattle.command_lists.specs.Gathered.{Gathered, large_of, listed, mapped, nothing}
 use Rattle.command_lists.specs.GatheredLaws.{else_none, or_nothing, step_in, step_out}
-use Rattle.command_lists.specs.Said.{always, alone, is_implementation, is_version_or_none, itself, left_out, members_step}
-use Rattle.command_lists.specs.Said.{numbers_step, sets_step, usable_step, version_said}
-use Rattle.command_lists.specs.Views.{byte_at, composition_view, held, mark_at, mark_said, nothing_at, numbers_view}
-use Rattle.command_lists.specs.Views.{set_at, sets_view, usable_view}
-use Rattle.sets.specs.SetLaws.{bit_below, bit_zero}
-use Rattle.sets.specs.Sets.{Set, bit, with}
-use Rattle.sets.specs.TestLaws.{<?_in, <?_out, =?-in, =?-not, =?-same, and-false, and_in, and-true, bool?, fails, if-false, if-true, or-false, or_l, or_r, same?}
+use Rattle.command_lists.specs.Said.{always, itself, plain_step}
+use Rattle.command_lists.specs.Views.{entry_at, given_by, maybe, seen, view}
+use Rattle.command_lists.specs.declared.gathered.Gathered.{Gathered as Kept}
+use Rattle.model_laws.specs.MapLaws.{option_map-some}
+use Rattle.sets.specs.SetLaws.{bit_ext, bit_limit, bit_mod, bit_zero}
+use Rattle.sets.specs.Sets.{Set, below, bit, with}
+use Rattle.sets.specs.TestLaws.{<?_in, <?_out, =?-not, =?-same, and-false, and_absorb, and_in, and_swap, bool?, fails, if-false, if-true, or-false, or_l, or_r, same?}
 use Rattle.sets.specs.Tests.{◌&◌, ◌<?◌, ◌=?◌, ◌or◌, if?◌then◌else◌, ~◌}
-use Rattle.command_lists.specs.declared.Composition.{Composition}
-use Rattle.command_lists.specs.declared.Numbers.{Numbers}
-use Rattle.command_lists.specs.declared.Sets.{Sets}
-use Rattle.command_lists.specs.declared.Usable.{Usable}
 
--- ---- fields
+-- ---- what stands at a place
 
-abbrev made : {B : Type 0} → Bool → Bool → Bool → Map B → Gathered B
-made l e t m = record { large = l; empty = e; twice = t; given = m }
+module _ {A : Type 0} where
+  entry_in : (at : List A) (v : ℕ) → v < length at → (x : A) × (entry_at at v ≡ some x)
+  unfolding entry_at
+  entry_in [] v h = absurd (not-suc-le-zero h)
+  entry_in (x ∷ xs) zero h = (x, refl)
+  entry_in (x ∷ xs) (suc v) h = entry_in xs v (omega (arith, h))
 
-module _ {B : Type 0} where
-  pub some_only : (t : Bool) (x : B) → is_some (only_if t x) ≡ t
-  unfolding is_some only_if
-  some_only true x = refl
-  some_only false x = refl
+  pub entry_out : (at : List A) (v : ℕ) → length at ≤ v → entry_at at v ≡ none
+  unfolding entry_at
+  entry_out [] v h = refl
+  entry_out (x ∷ xs) zero h = absurd (not-suc-le-zero h)
+  entry_out (x ∷ xs) (suc v) h = entry_out xs v (omega (arith, h))
+
+  entry_same : (at : List A) (v : ℕ) (x : A) → v < length at → entry_at (set at v x) v ≡ some x
+  unfolding entry_at
+  entry_same [] v x h = absurd (not-suc-le-zero h)
+  entry_same (y ∷ ys) zero x h = refl
+  entry_same (y ∷ ys) (suc v) x h = entry_same ys v x (omega (arith, h))
+
+  entry_other : (at : List A) (v i : ℕ) (x : A) → i ≢ v → entry_at (set at v x) i ≡ entry_at at i
+  unfolding entry_at
+  entry_other [] v i x n = refl
+  entry_other (y ∷ ys) zero zero x n = absurd (n refl)
+  entry_other (y ∷ ys) zero (suc i) x n = refl
+  entry_other (y ∷ ys) (suc v) zero x n = refl
+  entry_other (y ∷ ys) (suc v) (suc i) x n = entry_other ys v i x (λ q. n (ap suc q))
+
+-- ---- no entry
+
+pub seen_nothing : {A : Type 0} (at : List A) → seen false false false 0 at ≡ nothing
+unfolding seen given_by
+seen_nothing at = ap (λ (m : Map _). record { large = false; empty = false; twice = false; given = m }) (fun_ext (λ v. if-false _ _ _ (bit_zero v)))
+
+-- ---- one entry
+
+pub seen_large : {A : Type 0} (l e t : Bool) (s : ℕ) (at : List A) → seen true e t s at ≡ large_of (seen l e t s at)
+unfolding seen large_of
+seen_large l e t s at = refl
+
+not_true : (~ true) ≡ false
+unfolding ~◌
+not_true = refl
+
+or_false : (a : Bool) → (a or ~ true) ≡ a
+unfolding ~◌
+or_false a = or_nothing a
 
 with_here : (a : Set) (v : ℕ) → with a v v ≡ true
 unfolding with ◌or◌
@@ -45,267 +74,160 @@ with_else : (a : Set) (v i : ℕ) → i ≢ v → with a v i ≡ a i
 unfolding with
 with_else a v i q = or-false _ _ (=?-not _ _ q)
 
-else_first : {B : Type 0} (o : Option B) (x y : B) → o ≡ some x → else_try o (some y) ≡ some x
-unfolding else_try
-else_first o x y e = rw e refl
+only_yes : {A : Type 0} (t : Bool) (x : A) → t ≡ true → only_if t x ≡ some x
+unfolding only_if
+only_yes t x e = rw e refl
 
-else_second : {B : Type 0} (o p : Option B) → o ≡ none → else_try o p ≡ p
+only_no : {A : Type 0} (t : Bool) (x : A) → t ≡ false → only_if t x ≡ none
+unfolding only_if
+only_no t x e = rw e refl
+
+else_first : {A : Type 0} (o p : Option A) {x : A} → o ≡ some x → else_try o p ≡ some x
+unfolding else_try
+else_first o p e = rw e refl
+
+else_second : {A : Type 0} (o p : Option A) → o ≡ none → else_try o p ≡ p
 unfolding else_try
 else_second o p e = rw e refl
 
--- ---- no entry
+some_is : {A : Type 0} (o : Option A) {x : A} → o ≡ some x → is_some o ≡ true
+unfolding is_some
+some_is o e = rw e refl
 
-pub held_nothing : {B : Type 0} (at : ℕ → B) → held false false false 0 at ≡ nothing
-unfolding held
-held_nothing at = ap (λ (m : Map _). record { large = false; empty = false; twice = false; given = m }) (fun_ext (λ v. only_no _ _ (bit_zero v)))
+none_is : {A : Type 0} (o : Option A) → o ≡ none → is_some o ≡ false
+unfolding is_some
+none_is o e = rw e refl
 
--- ---- one entry, of any list
-
-module _ {A B : Type 0} (n : ℕ) (good full single : A → Bool) (what : A → B) (l e t : Bool) (s : ℕ) (at : ℕ → B) (v : ℕ) (a : A) where
-  abbrev was : Gathered B
-  was = held l e t s at
-
-  abbrev goes : Gathered B
-  goes = step n good full single what was (v, a)
-
-  listed_was : listed was v ≡ bit s v
-  unfolding listed held
-  listed_was = some_only _ _
-
-  in_limits_lem : v < n → good a ≡ true → (v <? n & good a) ≡ true
-  in_limits_lem h g = and_in _ _ (<?_in _ _ h) g
-
-  -- its number is new
-  module _ (w : ℕ) (at' : ℕ → B) (v< : v < n) (ok : good a ≡ true) (new : bit s v ≡ false) (bits : bit w ≡ with (bit s) v) (here : at' v ≡ what a)
-      (there : (i : ℕ) → i ≢ v → at' i ≡ at i) where
-    given_new : (i : ℕ) → only_if (bit w i) (at' i) ≡ else_try (only_if (bit s i) (at i)) (only_if (i =? v) (what a))
-    given_new i = elim (same? i v) [ inl q ↦ rw q is_v_lem | inr q ↦ other q ]
-      where
-        is_v_lem : only_if (bit w v) (at' v) ≡ else_try (only_if (bit s v) (at v)) (only_if (v =? v) (what a))
-        is_v_lem =
-            only_yes _ _ (ap (λ (f : Set). f v) bits ∙ with_here _ v) ∙ ap some here
-            ∙ sym (else_second _ _ (only_no _ _ new) ∙ only_yes _ _ (=?-same v))
-
-        other : i ≢ v → only_if (bit w i) (at' i) ≡ else_try (only_if (bit s i) (at i)) (only_if (i =? v) (what a))
-        other q =
-            ap₂ only_if (ap (λ (f : Set). f i) bits ∙ with_else _ v i q) (there i q)
-            ∙ sym (ap (else_try _) (only_no _ _ (=?-not _ _ q)) ∙ else_none _)
-
-    twice_new : (t or ~ single a) ≡ (t or (listed was v or ~ single a))
-    twice_new = ap (λ (z : Bool). t or z) (sym (or-false _ _ (listed_was ∙ new)))
-
-    pub entry_new : held l (e or ~ full a) (t or ~ single a) w at' ≡ goes
-    unfolding held
-    entry_new =
-        ap₂ (λ (z : Bool) (m : Map B). made l (e or ~ full a) z m) twice_new (fun_ext given_new)
-        ∙ sym (step_in n good full single what was (v, a) (in_limits_lem v< ok))
-
-  -- its number stands already
-  module _ (v< : v < n) (ok : good a ≡ true) (old : bit s v ≡ true) where
-    given_old : (i : ℕ) → only_if (bit s i) (at i) ≡ else_try (only_if (bit s i) (at i)) (only_if (i =? v) (what a))
-    given_old i = elim (same? i v) [
-      | inl q ↦ rw q (only_yes _ _ old ∙ sym (ap (else_try _) (only_yes _ _ (=?-same v)) ∙ else_first _ _ _ (only_yes _ _ old)))
-      | inr q ↦ sym (ap (else_try _) (only_no _ _ (=?-not _ _ q)) ∙ else_none _)
+-- the set with a number below k more is a number below 2 ^ k
+pub with_low : (k s v w : ℕ) → k ≤ 64 → s < 2 ^ k → v < k → w < 2 ^ 64 → bit w ≡ with (bit s) v → w < 2 ^ k
+with_low k s v w k≤ s< v< w< e = rw w_is (mod-lt w (pow_pos k))
+  where
+    listed_below : (f : ℕ) → bit w f ≡ true → f < k
+    listed_below f t = elim (same? f v) [
+      | inl q ↦ rw q v<
+      | inr q ↦ bit_limit k s f s< (sym (ap (λ (a : Set). a f) e ∙ with_else _ v f q) ∙ t)
     ]
 
-    twice_old : true ≡ (t or (listed was v or ~ single a))
-    twice_old = sym (or_r _ _ (or_l _ _ (listed_was ∙ old)))
+    bits : (f : ℕ) → bit w f ≡ bit (w % 2 ^ k) f
+    bits f = sym (ap (λ (a : Set). a f) (bit_mod k w) ∙ below_is f)
+      where
+        below_is : (f : ℕ) → below k (bit w) f ≡ bit w f
+        below_is f = unfold below in (and_swap _ _ ∙ and_absorb _ _ (λ t. <?_in _ _ (listed_below f t)))
 
-    pub entry_old : held l (e or ~ full a) true s at ≡ goes
-    unfolding held
-    entry_old =
-        ap₂ (λ (z : Bool) (m : Map B). made l (e or ~ full a) z m) twice_old (fun_ext given_old)
-        ∙ sym (step_in n good full single what was (v, a) (in_limits_lem v< ok))
+    w_is : w ≡ w % 2 ^ k
+    w_is = bit_ext 64 w (w % 2 ^ k) w< (lt_of_lt_of_le (mod-lt w (pow_pos k)) (pow_mono k≤)) (λ f _. bits f)
 
-  pub entry_large : (v <? n & good a) ≡ false → held true e t s at ≡ goes
-  unfolding held
-  entry_large q = sym (step_out n good full single what was (v, a) q)
+module _ {A : Type 0} (n : ℕ) (l e t : Bool) (s : ℕ) (at : List A) (v : ℕ) (x : A) where
+  abbrev goes : Gathered A
+  goes = plain_step n (seen l e t s at) (v, x)
 
-  pub number_large : n ≤ v → held true e t s at ≡ goes
-  number_large h = entry_large (and-false _ _ (fails _ (λ t. omega (arith, h, <?_out _ _ t))))
+  abbrev given : Map A
+  given = given_by s at
 
-  pub beside_large : v < n → good a ≡ false → held true e t s at ≡ goes
-  beside_large h g = entry_large (and-true _ _ (<?_in _ _ h) ∙ g)
+  pub number_large : n ≤ v → seen true e t s at ≡ goes
+  unfolding plain_step
+  number_large h = seen_large l e t s at ∙ sym (step_out n always always always itself (seen l e t s at) (v, x) (and-false _ _ (fails _ (λ t. omega (arith, h, <?_out _ _ t)))))
 
--- the same where nothing beside a number can be empty or hold a number twice
-module _ {A B : Type 0} (n : ℕ) (good : A → Bool) (what : A → B) (l t : Bool) (s : ℕ) (at : ℕ → B) (v : ℕ) (a : A) where
-  pub plain_new : (w : ℕ) (at' : ℕ → B) → v < n → good a ≡ true → bit s v ≡ false → bit w ≡ with (bit s) v → at' v ≡ what a
-      → ((i : ℕ) → i ≢ v → at' i ≡ at i) → held l false t w at' ≡ step n good always always what (held l false t s at) (v, a)
-  unfolding always ~◌
-  plain_new w at' v< ok new bits here there =
-      ap₂ (λ (x y : Bool). held l x y w at') (sym (or_nothing false)) (sym (or_nothing t))
-      ∙ entry_new n good always always what l false t s at v a w at' v< ok new bits here there
+  module _ (v< : v < n) (size : length at ≡ n) where
+    in_limits_lem : (v <? n & always x) ≡ true
+    unfolding always
+    in_limits_lem = and_in _ _ (<?_in _ _ v<) refl
 
-  pub plain_old : v < n → good a ≡ true → bit s v ≡ true → held l false true s at ≡ step n good always always what (held l false t s at) (v, a)
-  unfolding always ~◌
-  plain_old v< ok old =
-      ap (λ (x : Bool). held l x true s at) (sym (or_nothing false)) ∙ entry_old n good always always what l false t s at v a v< ok old
+    stepped : goes ≡ record {
+      large = l;
+      empty = e or ~ true;
+      twice = t or (is_some (given v) or ~ true);
+      given = λ i. else_try (given i) (only_if (i =? v) x);
+    }
+    unfolding plain_step always itself seen listed
+    stepped = step_in n always always always itself (seen l e t s at) (v, x) in_limits_lem
 
--- ---- versions with sets
+    is_here : bit s v ≡ true → (y : A) × (given v ≡ some y)
+    unfolding given_by
+    is_here y = let h = entry_in at v (omega (arith, v<, size)) in (h.0, if-true _ _ _ y ∙ h.1)
 
-pub set_is : (q : ℕ) → q < 2 ^ 64 → facility_set q ≡ bit q
-unfolding facility_set
-set_is q h = sym (bit_below 64 q h)
+    pub entry_old : bit s v ≡ true
+        → seen l e true s at ≡ goes
+    unfolding seen
+    entry_old y =
+        ap₂ (λ (z : Bool × Bool) (m : Map A). record { large = l; empty = z.0; twice = z.1; given = m })
+        (ap₂ (λ (a b : Bool). (a, b)) (sym (or_false e)) (sym (or_r _ _ (or_l _ _ (some_is _ (is_here y).1))))) (fun_ext same)
+        ∙ sym stepped
+      where
+        same : (i : ℕ) → given i ≡ else_try (given i) (only_if (i =? v) x)
+        same i = elim (same? i v) [
+          | inl q ↦ rw q ((is_here y).1 ∙ sym (else_first _ _ (is_here y).1))
+          | inr q ↦ sym (ap (else_try _) (only_no _ _ (=?-not _ _ q)) ∙ else_none _)
+        ]
 
-module _ (g : Sets) (v q : ℕ) where
-  abbrev SetGoes : Sets → Type 0
-  SetGoes r = (fs : List ℕ) → each_below facilities fs ≡ true → set_of fs ≡ bit q → sets_view r ≡ sets_step (sets_view g) (v, fs)
+    pub entry_new : (w : ℕ) → bit s v ≡ false → bit w ≡ with (bit s) v
+        → seen l e t w (set at v x) ≡ goes
+    unfolding seen given_by
+    entry_new w f bits =
+        ap₂ (λ (z : Bool × Bool) (m : Map A). record { large = l; empty = z.0; twice = z.1; given = m })
+        (ap₂ (λ (a b : Bool). (a, b)) (sym (or_false e)) (sym (ap (λ (z : Bool). t or z) (or-false _ _ (none_is _ not_given) ∙ not_true) ∙ or_nothing _))) (fun_ext more)
+        ∙ sym stepped
+      where
+        not_given : given v ≡ none
+        not_given = if-false _ _ _ f
 
-  pub set_large : 64 ≤ v → SetGoes (record { large = true; twice = g.twice; listed = g.listed; at = g.at })
-  unfolding sets_view sets_step
-  set_large h fs b e = number_large versions _ always always set_of g.large false g.twice g.listed (set_at g.at) v fs h
+        more : (i : ℕ) → given_by w (set at v x) i ≡ else_try (given i) (only_if (i =? v) x)
+        more i = elim (same? i v) [
+          | inl q ↦ rw q (if-true _ _ _ (ap (λ (a : Set). a v) bits ∙ with_here _ v) ∙ entry_same at v x (omega (arith, v<, size))
+              ∙ sym (else_second _ _ not_given ∙ only_yes _ _ (=?-same v)))
+          | inr q ↦ ap₂ (λ (t : Bool) (o : Option A). if? t then o else none) (ap (λ (a : Set). a i) bits ∙ with_else _ v i q) (entry_other at v i x q)
+              ∙ sym (ap (else_try _) (only_no _ _ (=?-not _ _ q)) ∙ else_none _)
+        ]
 
-  pub set-old : {r : Bool} → v < 64 → r ≡ bit g.listed v → r ≡ true
-      → SetGoes (record { large = g.large; twice = true; listed = g.listed; at = g.at })
-  unfolding sets_view sets_step
-  set-old h m y fs b e = plain_old versions _ set_of g.large g.twice g.listed (set_at g.at) v fs h b (sym m ∙ y)
+-- ---- the numbers listed
 
-  pub set_new : {r : Bool} (w : ℕ) → v < 64 → q < 2 ^ 64 → length g.at ≡ 64 → r ≡ bit g.listed v → r ≡ false → bit w ≡ with (bit g.listed) v
-      → SetGoes (record { large = g.large; twice = g.twice; listed = w; at = set g.at v q })
-  unfolding sets_view sets_step set_at
-  set_new w h q< len m y bits fs b e =
-      plain_new versions _ set_of g.large g.twice g.listed (set_at g.at) v fs w (set_at (set g.at v q)) h b (sym m ∙ y) bits
-      (ap facility_set (get_or-set_same g.at v q 0 (omega arith)) ∙ set_is q q< ∙ sym e) (λ i n. ap facility_set (get_or-set_other g.at v i q 0 n))
+module _ {A : Type 0} (n s : ℕ) (at : List A) (small : s < 2 ^ n) (size : length at ≡ n) where
+  pub given_listed : (v : ℕ) → is_some (given_by s at v) ≡ bit s v
+  unfolding given_by
+  given_listed v = elim (bool? (bit s v)) [
+    | inl t ↦ some_is _ (if-true _ _ _ t ∙ (entry_in at v (omega (arith, size, bit_limit n s v small t))).1) ∙ sym t
+    | inr f ↦ none_is _ (if-false _ _ _ f) ∙ sym f
+  ]
 
-pub no_sets_is : sets_view (record { large = false; twice = false; listed = 0; at = replicate 64 0 }) ≡ nothing
-unfolding sets_view
-no_sets_is = held_nothing _
+-- the numbers listed in what the code holds
+module _ {A : Type 0} (n : ℕ) (g : Kept A n) where
+  pub listed_mapped : {B : Type 0} (f : A → B) → listed (mapped f (view g)) ≡ bit g.listed
+  unfolding listed mapped seen
+  listed_mapped f = fun_ext (λ v. option_map-some f (given_by g.listed g.at v) ∙ given_listed n g.listed g.at g.low g.size v)
 
--- ---- versions with implementations
+  pub listed_seen : ◌≡◌ {A = Set} (listed (view g)) (bit g.listed)
+  unfolding listed seen
+  listed_seen = fun_ext (given_listed n g.listed g.at g.low g.size)
 
-pub itself_is : {A : Type 0} (a : A) → itself a ≡ a
-unfolding itself
-itself_is a = refl
+-- ---- what is read of a list
 
-byte_same : (i : ℕ) → i < 256 → byte i ≡ i
-unfolding byte
-byte_same i h = omega arith
+entry_get : {A : Type 0} (at : List A) (v : ℕ) (d : A) → v < length at → entry_at at v ≡ some (get_or at v d)
+unfolding entry_at
+entry_get [] v d h = absurd (not-suc-le-zero h)
+entry_get (x ∷ xs) zero d h = refl
+entry_get (x ∷ xs) (suc v) d h = entry_get xs v d (omega (arith, h))
 
-module _ (g : Numbers) (v i : ℕ) where
-  abbrev NumberGoes : Numbers → Type 0
-  NumberGoes r = numbers_view r ≡ numbers_step (numbers_view g) (v, i)
-
-  is_below_lem : i < 256 → is_implementation i ≡ true
-  unfolding is_implementation
-  is_below_lem h = <?_in _ _ h
-
-  is_large : 256 ≤ i → is_implementation i ≡ false
-  unfolding is_implementation
-  is_large h = fails _ (λ t. omega (arith, h, <?_out _ _ t))
-
-  pub version_large : 64 ≤ v → NumberGoes (record { large = true; twice = g.twice; listed = g.listed; at = g.at })
-  unfolding numbers_view numbers_step
-  version_large h = number_large versions _ always always itself g.large false g.twice g.listed (byte_at g.at) v i h
-
-  pub implementation_large : v < 64 → 256 ≤ i → NumberGoes (record { large = true; twice = g.twice; listed = g.listed; at = g.at })
-  unfolding numbers_view numbers_step
-  implementation_large h k = beside_large versions _ always always itself g.large false g.twice g.listed (byte_at g.at) v i h (is_large k)
-
-  pub number-old : {r : Bool} → v < 64 → i < 256 → r ≡ bit g.listed v → r ≡ true
-      → NumberGoes (record { large = g.large; twice = true; listed = g.listed; at = g.at })
-  unfolding numbers_view numbers_step
-  number-old h k m y = plain_old versions _ itself g.large g.twice g.listed (byte_at g.at) v i h (is_below_lem k) (sym m ∙ y)
-
-  pub number_new : {r : Bool} (w x : ℕ) → v < 64 → i < 256 → length g.at ≡ 64 → r ≡ bit g.listed v → r ≡ false
-      → bit w ≡ with (bit g.listed) v → x ≡ i → NumberGoes (record { large = g.large; twice = g.twice; listed = w; at = set g.at v x })
-  unfolding numbers_view numbers_step byte_at
-  number_new w x h k len m y bits e =
-      plain_new versions _ itself g.large g.twice g.listed (byte_at g.at) v i w (byte_at (set g.at v x)) h (is_below_lem k) (sym m ∙ y) bits
-      (ap byte (get_or-set_same g.at v x 0 (omega arith)) ∙ ap byte e ∙ byte_same i k ∙ sym (itself_is i)) (λ j n. ap byte (get_or-set_other g.at v j x 0 n))
-
-pub no_numbers_is : numbers_view (record { large = false; twice = false; listed = 0; at = replicate 64 0 }) ≡ nothing
-unfolding numbers_view
-no_numbers_is = held_nothing _
-
--- ---- members
-
-mark_good : (x : ℕ) → is_version_or_none (mark_said x) ≡ true
-unfolding is_version_or_none mark_said
-mark_good x = elim (bool? (x <? versions)) [
-  | inl t ↦ ap (λ (o : Option ℕ). if_there o (λ v. v <? versions)) (if-true _ _ _ t) ∙ (unfold if_there in t)
-  | inr t ↦ ap (λ (o : Option ℕ). if_there o (λ v. v <? versions)) (if-false _ _ _ t) ∙ (unfold if_there in refl)
+-- what is given, where the place of each number below n is known to be there
+pub given_only : {A B : Type 0} (n : ℕ) (g : Kept A n) (f : A → B) (d : A) (v : ℕ)
+    → (mapped f (view g)).given v ≡ only_if (bit g.listed v) (f (get_or g.at v d))
+unfolding mapped seen given_by option_map
+given_only n g f d v = elim (bool? (bit g.listed v)) [
+  | inl t ↦ ap (option_map f) (if-true _ _ _ t ∙ entry_get g.at v d (let h = bit_limit n g.listed v g.low t in omega (arith, h, g.size))) ∙ sym (only_yes _ _ t)
+  | inr e ↦ ap (option_map f) (if-false _ _ _ e) ∙ sym (only_no _ _ e)
 ]
 
-no_version : (x : ℕ) → 64 ≤ x → is_version_or_none (some x) ≡ false
-unfolding is_version_or_none if_there
-no_version x k = fails _ (λ t. omega (arith, k, <?_out _ _ t))
+pub listed_below : (n s v : ℕ) {m : Bool} → s < 2 ^ n → m ≡ bit s v → m ≡ true → v < n
+listed_below n s v small e t = bit_limit n s v small (sym e ∙ t)
 
-mark_none : mark_said 64 ≡ none
-unfolding mark_said if?◌then◌else◌ ◌<?◌
-mark_none = refl
+module _ {A : Type 0} (n : ℕ) (l e t : Bool) (s : ℕ) (at : List A) (v : ℕ) {m : Bool} (is : m ≡ bit s v) where
+  pub get_some : (d : A) → s < 2 ^ n → length at ≡ n → m ≡ true → maybe (Some (get_or at v d)) ≡ (seen l e t s at).given v
+  unfolding maybe seen given_by
+  get_some d small size y = sym (if-true _ _ _ (sym is ∙ y) ∙ entry_get at v d (let h = listed_below n s v small is y in omega (arith, h, size)))
 
-mark_some : (x : ℕ) → x < 64 → mark_said x ≡ some x
-unfolding mark_said
-mark_some x k = if-true _ _ _ (<?_in _ _ k)
+  pub get_none : m ≡ false → maybe None ≡ (seen l e t s at).given v
+  unfolding maybe seen given_by
+  get_none f = sym (if-false _ _ _ (sym is ∙ f))
 
-said_left_out : (x : ℕ) → x ≡ left_out → version_said x ≡ none
-unfolding version_said
-said_left_out x e = if-true _ _ _ (=?-in _ _ e)
+pub ruleset one_more = (number_large, entry_old, entry_new, with_low)
 
-module _ (g : Composition) (m : ℕ) where
-  abbrev MemberGoes : Option ℕ → Composition → Type 0
-  MemberGoes o r = composition_view r ≡ members_step (composition_view g) (m, o)
-
-  pub marked_old : {r : Bool} (x : ℕ) → m < 32 → r ≡ bit g.members m → r ≡ true
-      → MemberGoes (mark_said x) (record { large = g.large; twice = true; members = g.members; versions = g.versions })
-  unfolding composition_view members_step
-  marked_old x h e y = plain_old components _ itself g.large g.twice g.members (mark_at g.versions) m (mark_said x) h (mark_good x) (sym e ∙ y)
-
-  pub marked_new : {r : Bool} (x w z : ℕ) → m < 32 → length g.versions ≡ 32 → r ≡ bit g.members m → r ≡ false
-      → bit w ≡ with (bit g.members) m → z ≡ x
-      → MemberGoes (mark_said x) (record { large = g.large; twice = g.twice; members = w; versions = set g.versions m z })
-  unfolding composition_view members_step mark_at
-  marked_new x w z h len e y bits q =
-      plain_new components _ itself g.large g.twice g.members (mark_at g.versions) m (mark_said x) w (mark_at (set g.versions m z)) h
-      (mark_good x) (sym e ∙ y) bits
-      (ap mark_said (get_or-set_same g.versions m z 0 (omega arith) ∙ q) ∙ sym (itself_is _)) (λ i n. ap mark_said (get_or-set_other g.versions m i z 0 n))
-
-  abbrev large_is : Composition
-  large_is = record { large = true; twice = g.twice; members = g.members; versions = g.versions }
-
-  pub member_large : (x : ℕ) → 32 ≤ m → MemberGoes (version_said x) large_is
-  unfolding composition_view members_step
-  member_large x h = number_large components _ always always itself g.large false g.twice g.members (mark_at g.versions) m (version_said x) h
-
-  said_other : (x : ℕ) → x ≢ left_out → version_said x ≡ some x
-  unfolding version_said
-  said_other x n = if-false _ _ _ (=?-not _ _ n)
-
-  pub member_version_large : (x : ℕ) → m < 32 → x ≢ left_out → 64 ≤ x → MemberGoes (version_said x) large_is
-  unfolding composition_view members_step
-  member_version_large x h n k =
-      beside_large components _ always always itself g.large false g.twice g.members (mark_at g.versions) m (version_said x) h
-      (ap is_version_or_none (said_other x n) ∙ no_version x k)
-
-  pub member_left_out : (x : ℕ) (r : Composition) → x ≡ left_out → MemberGoes (mark_said 64) r → MemberGoes (version_said x) r
-  member_left_out x r e q = q ∙ ap (λ (o : Option ℕ). members_step (composition_view g) (m, o)) (mark_none ∙ sym (said_left_out x e))
-
-  pub member_said : (x : ℕ) (r : Composition) → x ≢ left_out → x < 64 → MemberGoes (mark_said x) r → MemberGoes (version_said x) r
-  member_said x r n k q = q ∙ ap (λ (o : Option ℕ). members_step (composition_view g) (m, o)) (mark_some x k ∙ sym (said_other x n))
-
-pub no_members_is : composition_view (record { large = false; twice = false; members = 0; versions = replicate 32 0 }) ≡ nothing
-unfolding composition_view
-no_members_is = held_nothing _
-
--- ---- usable components
-
-module _ (g : Usable) (c : ℕ) where
-  abbrev UsableGoes : Usable → Type 0
-  UsableGoes r = usable_view r ≡ usable_step (usable_view g) (alone c)
-
-  pub usable_large : 32 ≤ c → UsableGoes (record { large = true; twice = g.twice; set = g.set })
-  unfolding usable_view usable_step alone
-  usable_large h = number_large components _ always always itself g.large false g.twice g.set nothing_at c tt h
-
-  pub usable_old : {r : Bool} → c < 32 → r ≡ bit g.set c → r ≡ true → UsableGoes (record { large = g.large; twice = true; set = g.set })
-  unfolding usable_view usable_step alone always
-  usable_old h e y = plain_old components always itself g.large g.twice g.set nothing_at c tt h refl (sym e ∙ y)
-
-  pub usable_new : {r : Bool} (w : ℕ) → c < 32 → r ≡ bit g.set c → r ≡ false → bit w ≡ with (bit g.set) c
-      → UsableGoes (record { large = g.large; twice = g.twice; set = w })
-  unfolding usable_view usable_step alone always nothing_at itself
-  usable_new w h e y bits = plain_new components always itself g.large g.twice g.set nothing_at c tt w nothing_at h refl (sym e ∙ y) bits refl (λ i n. refl)
-
-pub no_usable_is : usable_view (record { large = false; twice = false; set = 0 }) ≡ nothing
-unfolding usable_view
-no_usable_is = held_nothing _
+pub ruleset read_at = (listed_below, get_some, get_none)

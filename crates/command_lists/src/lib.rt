@@ -1,249 +1,151 @@
-// What the five adding commands ask for: each list of a command gathered entry by entry into sets and arrays indexed by number, with
+// What the five adding commands ask for: each list of a command gathered entry by entry into a set and an array indexed by number, with
 // flags. The slices of a call and the reader of a text meet here.
 #![tactic(auto)]
 
-ghost use Rattle.std.specs.Prelude.{◌≡◌, true, List, ℕ, ◌<◌, ◌≤◌};
+ghost use Rattle.std.specs.Prelude.{◌≡◌, true, List, ℕ, ◌≤◌};
+ghost use Rattle.sets.specs.Answered.{answered};
 ghost use Rattle.sets.specs.Sets.{bit};
-ghost use Rattle.model.specs.Book.{facilities, versions};
+ghost use Rattle.model.specs.Book.{facilities};
 ghost use Rattle.model.specs.Commands.{Members};
 ghost use Rattle.model.specs.Lists.{set_of};
 ghost use Rattle.model.specs.Questions.{each_below};
-ghost use Rattle.command_lists.specs.Gathered.{nothing};
-ghost use Rattle.command_lists.specs.Said.{sets_step, numbers_step, members_step, members_of, compositions_step, usable_step, alone};
-ghost use Rattle.command_lists.specs.Said.{version_said};
-ghost use Rattle.command_lists.specs.Views.{sets_view, numbers_view, composition_view, compositions_view, usable_view, mark_said, row_written};
+ghost use Rattle.command_lists.specs.Gathered.{large_of, nothing};
+ghost use Rattle.command_lists.specs.Said.{sets_step, numbers_step, members_step, members_of, compositions_step, plain_step, usable_step, alone};
+ghost use Rattle.command_lists.specs.Views.{maybe, view, sets_view, numbers_view, composition_view, compositions_view, usable_view};
 
-// Versions with the facilities that each requires.
-#[derive(Clone, Copy)]
-pub struct Sets {
-    pub large: bool,
-    pub twice: bool,
-    pub listed: u64,
-    pub at: [u64; 64],
-}
+mod gathered;
+
+pub use gathered::Gathered;
+
+// Versions with the set of facilities that each requires.
+pub type Sets = Gathered<u64, 64>;
 
 // Versions with their implementations.
-#[derive(Clone, Copy)]
-pub struct Numbers {
-    pub large: bool,
-    pub twice: bool,
-    pub listed: u64,
-    pub at: [u8; 64],
-}
+pub type Numbers = Gathered<u8, 64>;
 
-// Members with their versions: 64 where the version is left out.
-#[derive(Clone, Copy)]
-pub struct Composition {
-    pub large: bool,
-    pub twice: bool,
-    pub members: u64,
-    pub versions: [u8; 32],
-}
+// Members with their versions, where these are not left out.
+pub type Composition = Gathered<Option<u8>, 32>;
 
-// Versions with their compositions: the members at the version, their versions in its row of 32.
-#[derive(Clone, Copy)]
-pub struct Compositions {
-    pub large: bool,
-    pub empty: bool,
-    pub twice: bool,
-    pub listed: u64,
-    pub members: [u64; 64],
-    pub rows: [u8; 2048],
-}
+// Versions with their compositions.
+pub type Compositions = Gathered<Composition, 64>;
 
-// Usable components.
-#[derive(Clone, Copy)]
-pub struct Usable {
-    pub large: bool,
-    pub twice: bool,
-    pub set: u64,
-}
+// Usable components: nothing stands beside them.
+pub type Usable = Gathered<(), 32>;
 
-// The mark that a member's version is left out.
+// The mark in a call's slices that a member's version is left out: a number of the calls' interface, which command_slices makes an Option.
 pub const LEFT_OUT: usize = 65535;
 
-// ---- no entry
+impl<T: Copy, const N: usize> Gathered<T, N> {
+    // No entry: the flags stay flags, as Gathered says.
+    #[tactic(auto, using(crate::specs::ViewLaws::seen_nothing))]
+    pub fn none(blank: T) -> Gathered<T, N>
+        ensures { view result ≡ nothing }
+    {
+        Gathered {
+            large: false,
+            empty: false,
+            twice: false,
+            listed: 0,
+            at: [blank; N],
+        }
+    }
 
-pub fn no_sets() -> Sets
-    ensures { sets_view result ≡ nothing }
-{
-    Sets {
-        large: false,
-        twice: false,
-        listed: 0,
-        at: [0; 64],
+    // One entry more, which is not below its limit: the flags stay flags, as Gathered says.
+    #[tactic(auto, using(crate::specs::ViewLaws::seen_large))]
+    pub fn with_large(self) -> Gathered<T, N>
+        ensures { view result ≡ large_of (view self) }
+    {
+        let mut n = self;
+        n.large = true;
+        n
+    }
+
+    // One entry more: number v with `beside`. What stands at a number's first place is kept. The flags stay flags, as Gathered says.
+    #[tactic(auto, using(crate::specs::ViewLaws::one_more))]
+    pub fn with(self, v: usize, beside: T) -> Gathered<T, N>
+        requires { N ≤ 64 }
+        ensures { view result ≡ plain_step N (view self) (v, beside) }
+    {
+        let mut n = self;
+        if N <= v {
+            n.large = true;
+            return n;
+        }
+        if sets::member(n.listed, v) {
+            n.twice = true;
+            return n;
+        }
+        n.listed = sets::with(n.listed, v);
+        n.at[v] = beside;
+        n
+    }
+
+    // What stands beside number v, if this is listed.
+    #[tactic(auto, using(crate::specs::ViewLaws::read_at))]
+    pub fn get(&self, v: usize) -> Option<T>
+        ensures { maybe result ≡ (view self.now).given v }
+    {
+        if sets::member(self.listed, v) {
+            Some(self.at[v])
+        } else {
+            None
+        }
     }
 }
-
-pub fn no_numbers() -> Numbers
-    ensures { numbers_view result ≡ nothing }
-{
-    Numbers {
-        large: false,
-        twice: false,
-        listed: 0,
-        at: [0; 64],
-    }
-}
-
-pub fn no_members() -> Composition
-    ensures { composition_view result ≡ nothing }
-{
-    Composition {
-        large: false,
-        twice: false,
-        members: 0,
-        versions: [0; 32],
-    }
-}
-
-pub fn no_compositions() -> Compositions
-    ensures { compositions_view result ≡ nothing }
-{
-    Compositions {
-        large: false,
-        empty: false,
-        twice: false,
-        listed: 0,
-        members: [0; 64],
-        rows: [0; 2048],
-    }
-}
-
-pub fn no_usable() -> Usable
-    ensures { usable_view result ≡ nothing }
-{
-    Usable {
-        large: false,
-        twice: false,
-        set: 0,
-    }
-}
-
-// ---- one entry more: what stands at a number's first place is kept
 
 // Version v, with the set of facilities that it requires.
+#[tactic(auto, using(crate::specs::MappedLaws::set_entry))]
 pub fn with_set(g: Sets, v: usize, required: u64) -> Sets
-    ensures { (fs : List ℕ) → each_below facilities fs ≡ true → set_of fs ≡ bit required → sets_view result ≡ sets_step (sets_view g) (v, fs) }
+    ensures { (fs : List ℕ) → each_below facilities fs ≡ true → set_of fs ≡ bit required
+        → sets_view result ≡ sets_step (sets_view g) (v, fs) }
 {
-    let mut n = g;
-    if 64 <= v {
-        n.large = true;
-        return n;
-    }
-    if sets::member(n.listed, v) {
-        n.twice = true;
-        return n;
-    }
-    n.listed = sets::with(n.listed, v);
-    n.at[v] = required;
-    n
+    g.with(v, required)
 }
 
 // Version v, with its implementation.
+#[tactic(auto, using(crate::specs::MappedLaws::number_entry, crate::specs::MappedLaws::number_large))]
 pub fn with_number(g: Numbers, v: usize, i: usize) -> Numbers
     ensures { numbers_view result ≡ numbers_step (numbers_view g) (v, i) }
 {
-    let mut n = g;
-    if 64 <= v {
-        n.large = true;
-        return n;
+    match u8::try_from(i) {
+        Ok(i) => g.with(v, i),
+        Err(_) => g.with_large(),
     }
-    if 256 <= i {
-        n.large = true;
-        return n;
-    }
-    if sets::member(n.listed, v) {
-        n.twice = true;
-        return n;
-    }
-    n.listed = sets::with(n.listed, v);
-    n.at[v] = i as u8;
-    n
 }
 
-// Member m, with its version, or with 64 where this is left out.
-fn with_marked(g: Composition, m: usize, mark: usize) -> Composition
-    requires { (m < 32) × (mark ≤ 64) }
-    ensures { composition_view result ≡ members_step (composition_view g) (m, mark_said mark) }
+// Member m, with its version where this is not left out.
+#[tactic(auto, using(crate::specs::MappedLaws::member_steps))]
+pub fn with_member(g: Composition, m: usize, version: Option<usize>) -> Composition
+    ensures { composition_view result ≡ members_step (composition_view g) (m, answered version) }
 {
-    let mut n = g;
-    if sets::member(n.members, m) {
-        n.twice = true;
-        return n;
-    }
-    n.members = sets::with(n.members, m);
-    n.versions[m] = mark as u8;
-    n
-}
-
-// Member m, with its version or LEFT_OUT.
-pub fn with_member(g: Composition, m: usize, version: usize) -> Composition
-    ensures { composition_view result ≡ members_step (composition_view g) (m, version_said version) }
-{
-    let mut n = g;
-    n.large = true;
-    if 32 <= m {
-        return n;
-    }
-    if version == LEFT_OUT {
-        return with_marked(g, m, 64);
-    }
-    if 64 <= version {
-        return n;
-    }
-    with_marked(g, m, version)
-}
-
-// Row v, from the versions of a composition.
-pub fn put_row(rows: &mut [u8; 2048], v: usize, versions: [u8; 32])
-    requires { v < 64 }
-    ensures { rows.new ≡ row_written rows.old v versions 32 }
-{
-    for m in 0..32 {
-        rows[v * 32 + m] = versions[m];
+    let Some(v) = version else {
+        return g.with(m, None);
+    };
+    match u8::try_from(v) {
+        Ok(v) if v < 64 => g.with(m, Some(v)),
+        _ => g.with_large(),
     }
 }
 
 // Version v, with its composition.
+#[tactic(auto, using(crate::specs::CompositionLaws::composition_steps))]
 pub fn with_composition(g: Compositions, v: usize, k: Composition) -> Compositions
-    ensures { (ms : Members) → composition_view k ≡ members_of ms → compositions_view result ≡ compositions_step (compositions_view g) (v, ms) }
+    ensures { (ms : Members) → composition_view k ≡ members_of ms
+        → compositions_view result ≡ compositions_step (compositions_view g) (v, ms) }
 {
-    let mut n = g;
-    if 64 <= v {
-        n.large = true;
-        return n;
+    if 64 <= v || k.large {
+        return g.with_large();
     }
-    if k.large {
-        n.large = true;
-        return n;
-    }
-    n.empty = n.empty | (k.members == 0);
+    let mut n = g.with(v, k);
+    n.empty = n.empty | (k.listed == 0);
     n.twice = n.twice | k.twice;
-    if sets::member(n.listed, v) {
-        n.twice = true;
-        return n;
-    }
-    n.listed = sets::with(n.listed, v);
-    n.members[v] = k.members;
-    let versions = k.versions;
-    put_row(&mut n.rows, v, versions);
     n
 }
 
 // The usable component c.
+#[tactic(auto, using(crate::specs::MappedLaws::usable_entry))]
 pub fn with_usable(g: Usable, c: usize) -> Usable
     ensures { usable_view result ≡ usable_step (usable_view g) (alone c) }
 {
-    let mut n = g;
-    if 32 <= c {
-        n.large = true;
-        return n;
-    }
-    if sets::member(n.set, c) {
-        n.twice = true;
-        return n;
-    }
-    n.set = sets::with(n.set, c);
-    n
+    g.with(c, ())
 }

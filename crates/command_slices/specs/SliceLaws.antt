@@ -1,28 +1,34 @@
 -- Slices read from the left, entry by entry: what was gathered of the entries before i, and the entries from i on.
-use Rattle.std.specs.Prelude.{Bool, true, ◌≡◌, refl, ◌+◌, ◌-◌, ◌<◌, ◌^◌, ◌≤◌, ℕ, min, take}
+use Rattle.std.specs.Prelude.{Bool, None, Option as Found, Some, true, ◌≡◌, ◌+◌, ◌-◌, ◌<◌, ◌^◌, ◌≤◌, ℕ, min, take}
 use mathlib.Core.List.{List, [], ◌∷◌, map}
 use Rattle.std.proofs.Math.Option.{Option}
 use Rattle.std.proofs.Common.{◌∙◌, arith, drop-drop, inl, inr}
-use Rattle.std.proofs.Math.Path.{ap, fun_ext, sym}
+use Rattle.std.proofs.Math.Path.{ap, sym}
 use Rattle.std.proofs.Math.Numerals.{add-one}
 use Rattle.std.proofs.Math.ListN.{drop, drop_of_length-le, get_or, length, length-drop}
 use Rattle.std.proofs.Math.Seq.{drop-cons}
 use Rattle.model.specs.Book.{components, facilities, versions}
 use Rattle.model.specs.Commands.{Members}
-use Rattle.model.specs.Lists.{elem, every, non_empty, set_of}
+use Rattle.model.specs.Lists.{beside, every, non_empty, set_of}
 use Rattle.model.specs.Maps.{Map}
-use Rattle.model.specs.Questions.{each_below}
-use Rattle.command_lists.specs.Gathered.{Gathered, gather, nothing, step}
+use Rattle.model.specs.Questions.{each_below, member_below}
+use Rattle.command_lists.specs.Gathered.{Gathered, gather, large_of, nothing, step}
 use Rattle.command_lists.specs.Said.{alone, always, compositions_from, compositions_of, compositions_said, compositions_step, facilities_said}
-use Rattle.command_lists.specs.Said.{itself, members_said, paired, usable_of, usable_step}
+use Rattle.command_lists.specs.GatheredLaws.{step_out}
+use Rattle.command_lists.specs.Said.{itself, left_out, members_once, members_said, paired, usable_of, usable_step, version_said}
 use Rattle.command_lists.specs.Views.{compositions_view, usable_view}
-use Rattle.sets.specs.SetLaws.{bit_zero}
+use Rattle.sets.specs.Answered.{answered}
 use Rattle.sets.specs.Sets.{bit}
-use Rattle.sets.specs.TestLaws.{and-false, and_in, and_no, fails, if-false, if-true, ≤?_in, ≤?_out, ≤_or_<}
+use Rattle.sets.specs.TestLaws.{<?_out, =?-in, =?-not, and-false, and_in, and_no, fails, if-false, if-true, ≤?_in, ≤?_out, ≤_or_<}
 use Rattle.sets.specs.Tests.{if?◌then◌else◌}
 use Rattle.model_laws.specs.RisingLaws.{rising_below, rising-set}
-use Rattle.command_lists.specs.declared.Compositions.{Compositions}
-use Rattle.command_lists.specs.declared.Usable.{Usable}
+use Rattle.command_lists.specs.declared.gathered.Gathered.{Gathered as Kept}
+
+-- ---- an entry that is not below its limit
+
+pub entry_large : {A B : Type 0} (n : ℕ) (good full single : A → Bool) (what : A → B) (g : Gathered B) (a : A)
+    → step n good full single what g (n, a) ≡ large_of g
+entry_large n good full single what g a = step_out n good full single what g (n, a) (and-false _ _ (fails _ (λ t. omega (arith, <?_out _ _ t))))
 
 -- ---- two lists that belong together
 
@@ -68,13 +74,13 @@ module _ {A B G : Type 0} (n : ℕ) (good full single : A → Bool) (what : A �
         (inv ∙ ap (gather n good full single what (view g)) (paired_more n a f xs ys i h k)
         ∙ ap (λ (x : Gathered B). gather n good full single what x (paired n a f (drop (i + 1) xs) (drop (i + 1) ys))) (sym (rw (← ex, ← ey) e)))
 
-    pairs-apart : (r : G) → paired n a f (drop i xs) (drop i ys) ≡ (n, a) ∷ [] → view r ≡ step n good full single what (view g) (n, a)
+    pairs-apart : (r : G) → paired n a f (drop i xs) (drop i ys) ≡ (n, a) ∷ [] → view r ≡ large_of (view g)
         → view r ≡ gather n good full single what nothing (paired n a f xs ys)
     unfolding PairsLeft gather
-    pairs-apart r e q = q ∙ sym (inv ∙ ap (gather n good full single what (view g)) e)
+    pairs-apart r e q = q ∙ sym (inv ∙ ap (gather n good full single what (view g)) e ∙ entry_large n good full single what (view g) a)
 
     -- one list is at its end, and the other is longer
-    pub pairs_differ : (r : G) → i ≡ min (length xs) (length ys) → (length xs ≡ length ys → ⊥) → view r ≡ step n good full single what (view g) (n, a)
+    pub pairs_differ : (r : G) → i ≡ min (length xs) (length ys) → (length xs ≡ length ys → ⊥) → view r ≡ large_of (view g)
         → view r ≡ gather n good full single what nothing (paired n a f xs ys)
     pairs_differ r e d q = elim (≤_or_< (length xs) i) [
       | inr h ↦ pairs-apart r (paired_first n a f xs ys i h (omega (arith, e, h))) q
@@ -89,6 +95,16 @@ module _ {A B G : Type 0} (n : ℕ) (good full single : A → Bool) (what : A �
     unfolding PairsLeft gather
     pairs_end e d = sym (inv ∙ ap (gather n good full single what (view g)) (paired_end n a f xs ys i (omega (arith, e, d)) (omega (arith, e, d))))
 
+-- ---- a member's version
+
+pub version_none : (x : ℕ) → x ≡ left_out → answered None ≡ version_said x
+unfolding answered version_said
+version_none x e = sym (if-true _ _ _ (=?-in _ _ e))
+
+pub version_some : (x : ℕ) → (x ≡ left_out → ⊥) → answered (Some x) ≡ version_said x
+unfolding answered version_said
+version_some x n = sym (if-false _ _ _ (=?-not _ _ n))
+
 -- ---- sets of facilities
 
 pub said_below : (q : ℕ) → each_below facilities (facilities_said q) ≡ true
@@ -99,26 +115,18 @@ pub said_set : (q : ℕ) → q < 2 ^ 64 → set_of (facilities_said q) ≡ bit q
 unfolding facilities_said
 said_set q h = rising-set q h
 
-pub none_below : each_below facilities [] ≡ true
-unfolding each_below every
-none_below = refl
-
-pub none-set : set_of [] ≡ bit 0
-unfolding set_of elem
-none-set = fun_ext (λ f. sym (bit_zero f))
-
 -- ---- usable components
 
 module _ (us : List ℕ) where
-  unfoldable pub UsableLeft : ℕ → Usable → Type 0
+  unfoldable pub UsableLeft : ℕ → Kept (Unit {0}) 32 → Type 0
   UsableLeft i g = usable_of us ≡ gather components always always always itself (usable_view g) (map alone (drop i us))
 
-  pub usable_start : (g : Usable) → usable_view g ≡ nothing → UsableLeft 0 g
+  pub usable_start : (g : Kept (Unit {0}) 32) → usable_view g ≡ nothing → UsableLeft 0 g
   unfolding UsableLeft usable_of
   usable_start g e = ap (λ (x : Gathered (Unit {0})). gather components always always always itself x (map alone us)) (sym e)
 
-  module _ (i : ℕ) (g : Usable) (inv : UsableLeft i g) where
-    pub usable_turn : (g' : Usable) → i < length us → usable_view g' ≡ usable_step (usable_view g) (alone (get_or us i 0)) → UsableLeft (i + 1) g'
+  module _ (i : ℕ) (g : Kept (Unit {0}) 32) (inv : UsableLeft i g) where
+    pub usable_turn : (g' : Kept (Unit {0}) 32) → i < length us → usable_view g' ≡ usable_step (usable_view g) (alone (get_or us i 0)) → UsableLeft (i + 1) g'
     unfolding UsableLeft gather usable_step
     usable_turn g' h e =
         inv ∙ ap (λ (l : List ℕ). gather components always always always itself (usable_view g) (map alone l)) (drop-cons us i 0 h ∙ ap (λ (n : ℕ). get_or us i 0 ∷ drop n us) (sym (add-one i)))
@@ -132,27 +140,29 @@ module _ (us : List ℕ) where
 -- ---- compositions
 
 module _ (vs ls ms xs : List ℕ) where
-  unfoldable pub CompositionsLeft : ℕ → ℕ → Compositions → Type 0
+  unfoldable pub CompositionsLeft : ℕ → ℕ → Kept (Kept (Found ℕ) 32) 64 → Type 0
   CompositionsLeft i a g =
       compositions_of (compositions_said vs ls ms xs)
       ≡ compositions_from (compositions_view g) (compositions_said (drop i vs) (drop i ls) (drop a ms) (drop a xs))
 
-  pub compositions_start : (g : Compositions) → compositions_view g ≡ nothing → CompositionsLeft 0 0 g
+  pub compositions_start : (g : Kept (Kept (Found ℕ) 32) 64) → compositions_view g ≡ nothing → CompositionsLeft 0 0 g
   unfolding CompositionsLeft compositions_of
   compositions_start g e = ap (λ (x : Gathered (Map (Option ℕ))). compositions_from x (compositions_said vs ls ms xs)) (sym e)
 
-  module _ (i a : ℕ) (g : Compositions) (inv : CompositionsLeft i a g) where
+  module _ (i a : ℕ) (g : Kept (Kept (Found ℕ) 32) 64) (inv : CompositionsLeft i a g) where
     abbrev left_said : List (ℕ × Members)
     left_said = compositions_said (drop i vs) (drop i ls) (drop a ms) (drop a xs)
 
     -- the lists do not belong together
-    ends_apart : (r : Compositions) → left_said ≡ (versions, []) ∷ [] → compositions_view r ≡ compositions_step (compositions_view g) (versions, [])
+    ends_apart : (r : Kept (Kept (Found ℕ) 32) 64) → left_said ≡ (versions, []) ∷ [] → compositions_view r ≡ large_of (compositions_view g)
         → compositions_view r ≡ compositions_of (compositions_said vs ls ms xs)
     unfolding CompositionsLeft compositions_from gather compositions_step
-    ends_apart r e q = q ∙ sym (inv ∙ ap (compositions_from (compositions_view g)) e)
+    ends_apart r e q =
+        q ∙ sym (inv ∙ ap (compositions_from (compositions_view g)) e
+        ∙ entry_large versions (every member_below) non_empty members_once beside (compositions_view g) [])
 
     -- one of the two lists is at its end, and the other is longer
-    pub lengths_differ : (r : Compositions) → i ≡ min (length vs) (length ls) → (length vs ≡ length ls → ⊥) → compositions_view r ≡ compositions_step (compositions_view g) (versions, [])
+    pub lengths_differ : (r : Kept (Kept (Found ℕ) 32) 64) → i ≡ min (length vs) (length ls) → (length vs ≡ length ls → ⊥) → compositions_view r ≡ large_of (compositions_view g)
         → compositions_view r ≡ compositions_of (compositions_said vs ls ms xs)
     unfolding compositions_said non_empty if?◌then◌else◌
     lengths_differ r e d q = elim (≤_or_< (length vs) i) [
@@ -167,17 +177,17 @@ module _ (vs ls ms xs : List ℕ) where
       one_said : left_said ≡ compositions_said (v ∷ drop (i + 1) vs) (l ∷ drop (i + 1) ls) (drop a ms) (drop a xs)
       one_said = rw (drop-cons vs i 0 h, drop-cons ls i 0 k, add-one i, ev, el)
 
-      pub few_members : (r : Compositions) → length ms - a < l → compositions_view r ≡ compositions_step (compositions_view g) (versions, [])
+      pub few_members : (r : Kept (Kept (Found ℕ) 32) 64) → length ms - a < l → compositions_view r ≡ large_of (compositions_view g)
           → compositions_view r ≡ compositions_of (compositions_said vs ls ms xs)
       unfolding compositions_said
       few_members r few q = ends_apart r (one_said ∙ if-false _ _ _ (and-false _ _ (fails _ (λ t. omega (arith, few, ≤?_out _ _ t, length-drop a ms))))) q
 
-      pub few_versions : (r : Compositions) → length xs - a < l → compositions_view r ≡ compositions_step (compositions_view g) (versions, [])
+      pub few_versions : (r : Kept (Kept (Found ℕ) 32) 64) → length xs - a < l → compositions_view r ≡ large_of (compositions_view g)
           → compositions_view r ≡ compositions_of (compositions_said vs ls ms xs)
       unfolding compositions_said
       few_versions r few q = ends_apart r (one_said ∙ if-false _ _ _ (and_no _ _ (λ _. fails _ (λ t. omega (arith, few, ≤?_out _ _ t, length-drop a xs))))) q
 
-      pub compositions_turn : (g' : Compositions) (j : ℕ) (c : Members) → j ≡ i + 1 → l ≤ length ms - a → l ≤ length xs - a
+      pub compositions_turn : (g' : Kept (Kept (Found ℕ) 32) 64) (j : ℕ) (c : Members) → j ≡ i + 1 → l ≤ length ms - a → l ≤ length xs - a
           → c ≡ members_said (take (a + l - a) (drop a ms)) (take (a + l - a) (drop a xs))
           → compositions_view g' ≡ compositions_step (compositions_view g) (v, c)
           → CompositionsLeft j (a + l) g'
@@ -208,12 +218,12 @@ module _ (vs ls ms xs : List ℕ) where
       k : length ls ≤ i
       k = omega (arith, all_done, alike)
 
-      pub members_left : (r : Compositions) → a < length ms → compositions_view r ≡ compositions_step (compositions_view g) (versions, [])
+      pub members_left : (r : Kept (Kept (Found ℕ) 32) 64) → a < length ms → compositions_view r ≡ large_of (compositions_view g)
           → compositions_view r ≡ compositions_of (compositions_said vs ls ms xs)
       unfolding compositions_said non_empty if?◌then◌else◌
       members_left r l q = ends_apart r (rw (drop_of_length-le vs h, drop_of_length-le ls k, drop-cons ms a 0 l)) q
 
-      pub versions_left : (r : Compositions) → length ms ≤ a → a < length xs → compositions_view r ≡ compositions_step (compositions_view g) (versions, [])
+      pub versions_left : (r : Kept (Kept (Found ℕ) 32) 64) → length ms ≤ a → a < length xs → compositions_view r ≡ large_of (compositions_view g)
           → compositions_view r ≡ compositions_of (compositions_said vs ls ms xs)
       unfolding compositions_said non_empty if?◌then◌else◌
       versions_left r l m q = ends_apart r (rw (drop_of_length-le vs h, drop_of_length-le ls k, drop_of_length-le ms l, drop-cons xs a 0 m)) q

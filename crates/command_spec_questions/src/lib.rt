@@ -2,9 +2,9 @@
 #![tactic(auto)]
 
 ghost use Rattle.std.specs.Prelude.{◌≡◌};
-ghost use Rattle.sets.specs.Sets.{bit, disjoint};
-ghost use Rattle.sets.specs.Tests.{all, ◌⇒◌};
-ghost use Rattle.book.specs.Plain.{plain, facility_set};
+ghost use Rattle.sets.specs.Sets.{bit};
+ghost use Rattle.sets.specs.Tests.{all};
+ghost use Rattle.book.specs.Plain.{plain};
 ghost use Rattle.command_lists.specs.Views.{sets_view};
 ghost use Rattle.command_lists.specs.Answers.{spec_answer};
 ghost use Rattle.command_questions.specs.Asked.{free_at};
@@ -14,28 +14,27 @@ use book::Book;
 use command_lists::Sets;
 use refusal::Refusal;
 
-// Question 13, for one version: is what it requires, if it is listed, free of the facilities provided?
-fn is_free(provided: u64, listed: bool, required: u64) -> bool
-    ensures { result ≡ (listed ⇒ disjoint 64 (bit provided) (facility_set required)) }
+// Question 13, for one version: is what it requires, if it is listed, free of the facilities provided? The set of these stays apart from
+// the versions: the writer, as the call, takes the two by themselves.
+#[tactic(auto, using(crate::specs::SpecLaws::free_unlisted, crate::specs::SpecLaws::free_listed))]
+fn is_free(provided: u64, g: &Sets, v: usize) -> bool
+    ensures { result ≡ free_at (bit provided) (sets_view g.now) v }
 {
-    if !listed {
-        return true;
+    match g.get(v) {
+        None => true,
+        Some(required) => sets::disjoint(provided, required),
     }
-    sets::disjoint(provided, sets::below_64(required))
 }
 
-// Question 13: "are the requirements free of its own facilities?"
-fn all_free(provided: u64, g: Sets) -> bool
-    ensures { result ≡ all 64 (free_at (bit provided) (sets_view g)) }
+// Question 13: "are the requirements free of its own facilities?" The set of these stays apart from the versions, as in the call.
+fn all_free(provided: u64, g: &Sets) -> bool
+    ensures { result ≡ all 64 (free_at (bit provided) (sets_view g.now)) }
 {
-    for v in 0..64 {
-        if !is_free(provided, sets::member(g.listed, v), g.at[v]) {
-            return false;
-        }
-    }
-    true
+    sets::all(64, |v| is_free(provided, g, v))
 }
 
+// The questions of ADD-SPEC. The set of the facilities provided stays apart from the versions, as in the call.
+#[tactic(auto, using(crate::specs::SpecLaws::spec_asked))]
 pub fn spec_answer(
     book: &Book,
     c: usize,
@@ -45,26 +44,13 @@ pub fn spec_answer(
 ) -> Result<(), Refusal>
     ensures { code result ≡ spec_answer (plain book.now) c (bit provided) (sets_view g) standard }
 {
-    if 32 <= c || g.large || 64 <= standard {
-        return Err(Refusal::TooLarge);
-    }
-    if g.listed == 0 {
-        return Err(Refusal::Empty);
-    }
-    if g.twice {
-        return Err(Refusal::Twice);
-    }
-    if book.is_specified(c) {
-        return Err(Refusal::Specified);
-    }
-    if 8 < sets::count(g.listed) {
-        return Err(Refusal::NinthVersion);
-    }
-    if !all_free(provided, g) {
-        return Err(Refusal::RequiresItsOwn);
-    }
-    if !sets::member(g.listed, standard) {
-        return Err(Refusal::StandardNotListed);
-    }
-    Ok(())
+    command_outcome::first_no(&[
+        ((c < 32) & !g.large & (standard < 64), Refusal::TooLarge),
+        (g.listed != 0, Refusal::Empty),
+        (!g.twice, Refusal::Twice),
+        (!book.is_specified(c), Refusal::Specified),
+        (sets::count(g.listed) <= 8, Refusal::NinthVersion),
+        (all_free(provided, &g), Refusal::RequiresItsOwn),
+        (sets::member(g.listed, standard), Refusal::StandardNotListed),
+    ])
 }

@@ -1,7 +1,7 @@
 // The questions that are put to ADD-MODVAR and ADD-SYSVAR, in their order.
 #![tactic(auto)]
 
-ghost use Rattle.std.specs.Prelude.{◌≡◌, ◌<◌};
+ghost use Rattle.std.specs.Prelude.{◌≡◌};
 ghost use Rattle.sets.specs.Sets.{bit};
 ghost use Rattle.sets.specs.Tests.{◌<?◌};
 ghost use Rattle.model.specs.Limits.{how_many};
@@ -19,13 +19,14 @@ use refusal::Refusal;
 // ---- ADD-MODVAR
 
 // Question 12: "would it have at most 8 versions?"
+#[tactic(auto, using(crate::specs::VersionLaws::room_is))]
 fn has_room(book: &Book, c: usize) -> bool
-    requires { c < 32 }
     ensures { result ≡ (how_many (plain book.now).specs c <? 8) }
 {
     sets::count(book.versions(c)) < 8
 }
 
+#[tactic(auto, using(crate::specs::VersionLaws::modvar_asked))]
 pub fn modvar_answer(
     book: &Book,
     c: usize,
@@ -35,47 +36,31 @@ pub fn modvar_answer(
 ) -> Result<(), Refusal>
     ensures { code result ≡ modvar_answer (plain book.now) c v (bit required) i }
 {
-    if 32 <= c || 64 <= v || 256 <= i {
-        return Err(Refusal::TooLarge);
-    }
-    if !book.is_module(c) {
-        return Err(Refusal::NoModule);
-    }
-    if book.has_version(c, v) {
-        return Err(Refusal::HasVersion);
-    }
-    if !has_room(book, c) {
-        return Err(Refusal::NinthVersion);
-    }
-    if !sets::disjoint(book.provides(c), required) {
-        return Err(Refusal::RequiresItsOwn);
-    }
-    Ok(())
+    command_outcome::first_no(&[
+        ((c < 32) & (v < 64) & (i < 256), Refusal::TooLarge),
+        (book.is_module(c), Refusal::NoModule),
+        (!book.has_version(c, v), Refusal::HasVersion),
+        (has_room(book, c), Refusal::NinthVersion),
+        (
+            sets::disjoint(book.provides(c), required),
+            Refusal::RequiresItsOwn,
+        ),
+    ])
 }
 
 // ---- ADD-SYSVAR
 
 // Its questions before the one that is put to the book afterwards.
+#[tactic(auto, using(crate::specs::VersionLaws::sysvar_asked_lem))]
 pub fn sysvar_asked(book: &Book, c: usize, v: usize, g: Composition) -> Result<(), Refusal>
     ensures { code result ≡ first_no (sysvar_asked (plain book.now) c v (composition_view g)) }
 {
-    if 32 <= c || 64 <= v || g.large {
-        return Err(Refusal::TooLarge);
-    }
-    if sets::below_32(g.members) == 0 {
-        return Err(Refusal::Empty);
-    }
-    if g.twice {
-        return Err(Refusal::Twice);
-    }
-    if !book.is_system(c) {
-        return Err(Refusal::NoSystem);
-    }
-    if book.has_version(c, v) {
-        return Err(Refusal::HasVersion);
-    }
-    if !has_room(book, c) {
-        return Err(Refusal::NinthVersion);
-    }
-    Ok(())
+    command_outcome::first_no(&[
+        ((c < 32) & (v < 64) & !g.large, Refusal::TooLarge),
+        (g.listed != 0, Refusal::Empty),
+        (!g.twice, Refusal::Twice),
+        (book.is_system(c), Refusal::NoSystem),
+        (!book.has_version(c, v), Refusal::HasVersion),
+        (has_room(book, c), Refusal::NinthVersion),
+    ])
 }

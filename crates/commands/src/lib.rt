@@ -1,6 +1,6 @@
 // The ten commands as calls on a Book (document 01, "The ten commands"). Each tests for 25 and then does what the function of its
 // name with `_in` does (command_add, command_delete). What a call gives and leaves is `Called` (command_outcome).
-#![tactic(auto)]
+#![tactic(auto, using(book_test::specs::TestedLaws::was_tested))]
 
 ghost use Rattle.model.specs.Commands.{DEL-SPEC, DEL-MOD, DEL-SYS, DEL-MODVAR, DEL-SYSVAR};
 ghost use Rattle.command_outcome.specs.Outcome.{Called};
@@ -10,7 +10,8 @@ ghost use Rattle.refusal.specs.Numbers.{code};
 use book::Book;
 use refusal::Refusal;
 
-// ADD-SPEC, on any Book: the facilities provided as a set; versions, and for each the set of the facilities that it requires.
+// ADD-SPEC, on any Book: the facilities provided as a set; versions, and for each the set of the facilities that it requires. The slices are
+// the calls' interface, "by numbers".
 pub fn add_spec(
     book: &mut Book,
     c: usize,
@@ -27,7 +28,7 @@ pub fn add_spec(
     command_add::add_spec_in(book, c, provided, g, standard)
 }
 
-// ADD-MOD, on any Book: versions, and for each its implementation.
+// ADD-MOD, on any Book: versions, and for each its implementation. The slices are the calls' interface, "by numbers".
 pub fn add_mod(
     book: &mut Book,
     c: usize,
@@ -58,7 +59,7 @@ pub fn add_modvar(
 }
 
 // ADD-SYS, on any Book: usable components; versions, and for each the length of its composition; the members of all compositions one
-// after the other, and for each its version or command_lists::LEFT_OUT.
+// after the other, and for each its version or command_lists::LEFT_OUT. The slices are the calls' interface, "by numbers".
 pub fn add_sys(
     book: &mut Book,
     c: usize,
@@ -77,7 +78,7 @@ pub fn add_sys(
     command_add::add_sys_in(book, c, u, g)
 }
 
-// ADD-SYSVAR, on any Book: members, and for each its version or command_lists::LEFT_OUT.
+// ADD-SYSVAR, on any Book: members, and for each its version or command_lists::LEFT_OUT. The slices are the calls' interface, "by numbers".
 pub fn add_sysvar(
     book: &mut Book,
     c: usize,

@@ -6,6 +6,7 @@ use Rattle.model.specs.Book.{is_module, is_system, specified}
 use Rattle.model.specs.Lists.{from, if_found, keep, rising}
 use Rattle.model.specs.Maps.{is_some}
 use Rattle.sets.specs.TestLaws.{≤_or_<}
+use Rattle.names.specs.Stored.{Rows}
 use Rattle.names_test.specs.Answered.{TextCall, handed}
 use Rattle.names_test.specs.Demand.{answered_named, answered_text}
 use Rattle.names_test.specs.Demand as demand
@@ -63,7 +64,7 @@ module _ {s : State} (p : PassesNamed s) {slice after : List ℕ} {r : SessionEn
 
 -- ---- what `text_of` wrote, read by `session`
 
-module _ {s n c v f i old : List ℕ} {a len : ℕ} {new : List ℕ} (k : TextCall s n c v f i old a len new) (z : a ≡ 0)
+module _ {s n : List ℕ} {c v f i : Rows} {old : List ℕ} {a len : ℕ} {new : List ℕ} (k : TextCall s n c v f i old a len new) (z : a ≡ 0)
     {slice after : List ℕ} {r : SessionEnd} (q : SessionCall (take len new) slice after r) where
   of_the_text : SessionCall (text_of (handed s n c v f i)) slice after r
   of_the_text = subst (λ (x : Text). SessionCall x slice after r) (answered_text k z) q
@@ -83,14 +84,15 @@ module _ {s n c v f i old : List ℕ} {a len : ℕ} {new : List ℕ} (k : TextCa
   too_short h = short_refused (answered_named k z) of_the_text h
 
 -- A slice of 480 bytes is long enough for the rows of every book that `text_of` wrote.
-pub always_enough : {s n c v f i old : List ℕ} {a len : ℕ} {new : List ℕ} → TextCall s n c v f i old a len new → a ≡ 0
+pub always_enough : {s n : List ℕ} {c v f i : Rows} {old : List ℕ} {a len : ℕ} {new : List ℕ} → TextCall s n c v f i old a len new → a ≡ 0
     → length (rows_back (handed s n c v f i)) ≤ 480
 always_enough k z = rows_short _ (answered_named k z)
 
 -- ---- equal texts
 
 -- what two calls of `text_of` wrote is equal exactly when their books are the same by names
-pub equal_texts : {s n c v f i old : List ℕ} {a len : ℕ} {new : List ℕ} {s' n' c' v' f' i' old' : List ℕ} {a' len' : ℕ} {new' : List ℕ}
+pub equal_texts : {s n : List ℕ} {c v f i : Rows} {old : List ℕ} {a len : ℕ} {new : List ℕ} {s' n' : List ℕ} {c' v' f' i' : Rows}
+    {old' : List ℕ} {a' len' : ℕ} {new' : List ℕ}
     → TextCall s n c v f i old a len new → a ≡ 0 → TextCall s' n' c' v' f' i' old' a' len' new' → a' ≡ 0
     → (take len new ≡ take len' new') ↔ Same (handed s n c v f i) (handed s' n' c' v' f' i')
 equal_texts = demand.equal_texts

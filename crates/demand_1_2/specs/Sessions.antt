@@ -54,7 +54,8 @@ module _ {t : Text} {old new : List ℕ} {r : SessionEnd} (k : SessionCall t old
   ]
 
   -- so that every call takes it: the text of what is handed back is never refused with 25
-  pub test_passed : passes_named r.state.book.sets r.state.book.numbers r.state.names.comps r.state.names.vers r.state.names.facs r.state.names.impls ≡ true
+  pub test_passed : passes_named r.state.book.sets r.state.book.numbers r.state.names.comps.rows r.state.names.vers.rows r.state.names.facs.rows
+      r.state.names.impls.rows ≡ true
   unfolding state_of handed
   test_passed = named_test _ _ _ _ _ _ (passes-proper _ _ r.state.ready.passes, hands_back_good)
 

@@ -15,7 +15,7 @@ use book::Book;
 use parts::PartsList;
 use refusal::Refusal;
 
-// The call of a number. ADD-SPEC's standard version is v.
+// The call of a number. ADD-SPEC's standard version is v. The numbers and the slices are what a host in C hands in (bench_host).
 pub fn call(
     book: &mut Book,
     kind: usize,
@@ -35,6 +35,8 @@ pub fn call(
         (command_of (call_of kind c v i set usable.now versions.now implementations.now lengths.now
         members.now chosen.now required.now)) (code result) book.new.sets book.new.numbers }
 {
+    // the numbers are what a host in C hands in
+    // The kind is a number, as a host in C hands it in.
     if kind == 0 {
         return commands::add_spec(book, c, set, versions, required, v);
     }
@@ -65,7 +67,8 @@ pub fn call(
     commands::del_sysvar(book, c, v)
 }
 
-// The parts list of a version, into a slice: what demand 3 says of a version that is stored in a Book that passes the test for 25.
+// The parts list of a version, into a slice: what demand 3 says of a version that is stored in a Book that passes the test for 25. The slice
+// is the caller's, as no call uses the heap, and the answer says how much of it is used.
 pub fn listed(book: &Book, c: usize, v: usize, out: &mut [u16]) -> Result<PartsList, Refusal>
     ensures { test.passes book.now.sets book.now.numbers ≡ true → model.has_version (plain book.now).specs c v ≡ true
         → PartsGiven book.now.sets book.now.numbers c v out.old (code result) (rows_found result) (depth_found result) out.new }

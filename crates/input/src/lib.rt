@@ -6,7 +6,8 @@ ghost use Rattle.std.specs.Io.{ReadsAtMost};
 use std::io;
 use std::io::Read;
 
-// Reads until the slice is full or the reader ends: how many bytes it read. What fails is the call's error.
+// Reads until the slice is full or the reader ends: how many bytes it read. What fails is the call's error. The position is the sum of what
+// the calls of `read` gave; the library's `read_exact` would make an error of a reader that ends before the slice is full.
 pub fn fill<R: Read>(from: &mut R, to: &mut [u8]) -> io::Result<usize>
     ensures { ReadsAtMost result to.new }
 {

@@ -1,6 +1,9 @@
 pub mod Stored
+pub mod Kept
+pub mod RowLaws
 pub mod UpToLastLaws
 pub mod PlaceLaws
 pub mod StoredLaws
+pub mod SearchLaws
 pub mod EnterLaws
 pub mod EnterAllLaws

@@ -7,6 +7,7 @@ use Rattle.std.proofs.Math.Path.{ap₂}
 use Rattle.std.proofs.Math.ListN.{length, take}
 use Rattle.std.proofs.Math.Seq.{take-append_seam}
 use Rattle.book.specs.Plain.{proper}
+use Rattle.names.specs.Stored.{Rows}
 use Rattle.book_rules.specs.TestLaws.{passes_plain, passes-proper, plain_passes}
 use Rattle.seqs.specs.Filled.{filled}
 use Rattle.sets.specs.TestLaws.{=?-in, and_in, and_l, and_r, bool?, if-false, if-true}
@@ -18,7 +19,7 @@ use Rattle.text_laws.specs.Handed.{hold_names, names_hold_lem}
 use Rattle.model_laws.specs.Good.{passes→good}
 use Rattle.names_test.specs.Answered.{TextCall, handed, passes_named, slice_with, text_answer, text_len}
 
-module _ (s n c v f i : List ℕ) where
+module _ (s n : List ℕ) (c v f i : Rows) where
   -- the test is the question for 25: of the Book's own numbers, of the book and of its tables
   pub test_named : passes_named s n c v f i ≡ true → (proper s n ≡ true) × PassesNamed (handed s n c v f i)
   unfolding passes_named handed
@@ -59,7 +60,7 @@ module _ (s n c v f i : List ℕ) where
 
 -- ---- a call that answered 0
 
-module _ {s n c v f i old : List ℕ} {a len : ℕ} {new : List ℕ} (k : TextCall s n c v f i old a len new) (z : a ≡ 0) where
+module _ {s n : List ℕ} {c v f i : Rows} {old : List ℕ} {a len : ℕ} {new : List ℕ} (k : TextCall s n c v f i old a len new) (z : a ≡ 0) where
   pub answered_named : PassesNamed (handed s n c v f i)
   answered_named = ((answers_named s n c v f i old).0 (inl (sym k.answer ∙ z))).1
 
@@ -72,7 +73,8 @@ module _ {s n c v f i old : List ℕ} {a len : ℕ} {new : List ℕ} (k : TextCa
       ∙ take-append_seam (text_of (handed s n c v f i)) _
 
 -- "two books have equal texts exactly when they are the same by names"
-pub equal_texts : {s n c v f i old : List ℕ} {a len : ℕ} {new : List ℕ} {s' n' c' v' f' i' old' : List ℕ} {a' len' : ℕ} {new' : List ℕ}
+pub equal_texts : {s n : List ℕ} {c v f i : Rows} {old : List ℕ} {a len : ℕ} {new : List ℕ} {s' n' : List ℕ} {c' v' f' i' : Rows} {old' : List ℕ}
+    {a' len' : ℕ} {new' : List ℕ}
     → TextCall s n c v f i old a len new → a ≡ 0 → TextCall s' n' c' v' f' i' old' a' len' new' → a' ≡ 0
     → (take len new ≡ take len' new') ↔ Same (handed s n c v f i) (handed s' n' c' v' f' i')
 equal_texts k z k' z' =

@@ -1,22 +1,23 @@
 -- Laws of names asked for: one for each way out of the code.
-use Rattle.std.specs.Prelude.{Bool, ◌&&◌, false, not, true, ◌⊎◌, ◌≢◌, ◌≡◌, ◌<◌, ◌≤◌, ℕ}
+use Rattle.std.specs.Prelude.{Bool, ◌&&◌, ◌||◌, false, not, true, ◌⊎◌, ◌≢◌, ◌≡◌, ◌<◌, ◌≤◌, ℕ}
 use mathlib.Core.List.{List, [], ◌∷◌}
 use Rattle.std.proofs.Math.Logic.{inl, inr}
 use Rattle.std.proofs.Math.Option.{Option}
+use Rattle.std.specs.Prelude.{None, Option as Found, Some}
+use Rattle.std.specs.Str.{bytes_eq}
+use Rattle.seqs.specs.SameLaws.{same_is}
+use Rattle.sets.specs.Answered.{answered}
 use Rattle.std.proofs.Common.{◌∙◌, subst, arith}
 use Rattle.std.proofs.Math.Path.{ap, ap₂, refl, sym}
-use borrow.Author.Tests.{not-false, not-true}
 use Rattle.std.proofs.Math.ListN.{get_or-eq_default, length}
 use Rattle.book.specs.Plain.{modules_of, specs_of}
-use Rattle.book.specs.ReadLaws.{has_version_plain, implementation_plain, is_module_plain}
-use Rattle.model.specs.Book.{has_version, implementation, is_module, provides, requires, specified}
+use Rattle.model.specs.Book.{has_version, implementation, provides, requires, specified}
 use Rattle.model.specs.Lists.{non_empty}
-use Rattle.model.specs.Maps.{if_there, is_some, or_else}
-use Rattle.names.specs.Stored.{name_in, table_of, tables_of}
+use Rattle.model.specs.Maps.{if_there}
+use Rattle.names.specs.Stored.{Rows, name_in, table_of, tables_of}
 use Rattle.names.specs.UpToLastLaws.{last_length}
-use Rattle.sets.specs.LoopLaws.{all_end, all_stop}
 use Rattle.sets.specs.Sets.{Set, bit}
-use Rattle.sets.specs.TestLaws.{<?_out, <?_no, all_in, all_out, bool?, clash, fails, if-false, if-true, iff→≡, imp_in, imp_out}
+use Rattle.sets.specs.TestLaws.{<?_out, <?_no, all_in, all_out, bool?, clash, fails, iff→≡, imp_in, imp_out}
 use Rattle.sets.specs.TestLaws.{not_in, not_out, same?}
 use Rattle.sets.specs.Tests.{◌&◌, ◌<?◌, ◌⇒◌, all, ~◌}
 use Rattle.text.specs.Bytes.{Text, same, valid_implementation, valid_name}
@@ -27,15 +28,15 @@ use Rattle.text.specs.Tables.{Table, name_at}
 use Rattle.text_laws.specs.Handed.{once_twice}
 use Rattle.text_laws.specs.Places.{none_twice_lem}
 use Rattle.text_laws.specs.TextLaws.{same_out, same_refl}
-use Rattle.model_laws.specs.MapLaws.{is_some_out, option_map-some}
 use Rattle.names_test.specs.Answered.{handed}
 use Rattle.names_test.specs.Named.{apart_from, component_if, implementation_named, named_if, new_at, version_if}
 
 -- ---- no name twice
 
-pub apart_is : (t : Table) (i j : ℕ) {a b : Text} {r : Bool} → a ≡ name_at t i → b ≡ name_at t j → r ≡ same a b → not r ≡ apart_from t i j
+pub apart_is : (t : Table) (i j : ℕ) {a b : Text} {r : Bool} → a ≡ name_at t i → b ≡ name_at t j → r ≡ not (bytes_eq a b)
+    → r ≡ apart_from t i j
 unfolding apart_from ~◌
-apart_is t i j e f s = ap not (s ∙ ap₂ same e f)
+apart_is t i j {a = a} {b = b} e f s = s ∙ ap not (same_is a b ∙ ap₂ same e f)
 
 empty-none : (w : Name) → length w ≡ 0 → non_empty w ≡ false
 unfolding non_empty
@@ -92,16 +93,9 @@ module _ (t : Table) (p : ℕ) (l : length t ≤ p) where
   pub new_each : all p (new_at t) ≡ none_twice t
   new_each = iff→≡ _ _ (λ a. once_twice t (all_once a)) (λ a. once-all (none_twice_lem t a))
 
-pub table_new : (p : ℕ) (b : List ℕ) → all p (new_at (table_of p b)) ≡ none_twice (table_of p b)
+pub none_is : (p : ℕ) (b : Rows) → all p (new_at (table_of p b)) ≡ none_twice (table_of p b)
 unfolding table_of
-table_new p b = new_each (table_of p b) p (last_length p (name_in b))
-
--- a loop that asks each place in turn
-pub new_stop : (p i : ℕ) (b : List ℕ) {r : Bool} → i < p → r ≡ new_at (table_of p b) i → not r ≡ true → false ≡ none_twice (table_of p b)
-new_stop p i b h e n = all_stop p i _ h e n ∙ table_new p b
-
-pub new_end : (p i : ℕ) (b : List ℕ) → i ≤ p → p ≤ i → all i (new_at (table_of p b)) ≡ true → true ≡ none_twice (table_of p b)
-new_end p i b h k a = all_end p i _ h k a ∙ table_new p b
+none_is p b = new_each (table_of p b) p (last_length p (name_in b))
 
 -- ---- a name that is asked for only where a number is in the book
 
@@ -113,36 +107,37 @@ imp_asked : (a : Bool) {b r : Bool} → a ≡ true → r ≡ b → r ≡ (a ⇒ 
 unfolding ◌⇒◌
 imp_asked a {b} e q = q ∙ sym (ap (λ (x : Bool). x ⇒ b) e)
 
+imp_is : (a b : Bool) → (not a || b) ≡ (a ⇒ b)
+unfolding ◌⇒◌
+imp_is true b = refl
+imp_is false b = refl
+
 module _ (t : Table) (p : Set) (f : ℕ) {m : Bool} (e : m ≡ p f) where
-  pub named_skip : not m ≡ true → true ≡ named_if t p f
+  pub named_skip : m ≡ false → true ≡ named_if t p f
   unfolding named_if
-  named_skip h = imp_skip _ _ (sym e ∙ not-true m h)
+  named_skip h = imp_skip _ _ (sym e ∙ h)
 
-  pub named_is : {w : Text} {r : Bool} → not m ≡ false → w ≡ name_at t f → r ≡ valid_name w → r ≡ named_if t p f
+  pub named_is : {w : Text} {r : Bool} → m ≡ true → w ≡ name_at t f → r ≡ valid_name w → r ≡ named_if t p f
   unfolding named_if
-  named_is h q k = imp_asked _ (sym e ∙ not-false m h) (k ∙ ap valid_name q)
+  named_is h q k = imp_asked _ (sym e ∙ h) (k ∙ ap valid_name q)
 
-module _ (s n cs vs fs is : List ℕ) (c : ℕ) where
+module _ (s n : List ℕ) (cs vs fs is : Rows) (c : ℕ) where
   abbrev the : State
   the = handed s n cs vs fs is
 
   module _ (v : ℕ) where
-    module _ {m : Bool} (e : m ≡ is_module (modules_of n) c) where
-      pub no_implementation : not m ≡ true → true ≡ implementation_named the c v
-      unfolding implementation_named handed if_there
-      no_implementation h =
-          sym (ap (λ (o : Option ℕ). if_there o (λ i. valid_implementation (name_at (tables_of cs vs fs is).impls i)))
-          (implementation_plain s n c v ∙ if-false _ _ _ (sym (is_module_plain s n c) ∙ sym e ∙ not-true m h)))
+    pub no_implementation : {r : Found ℕ} → answered r ≡ implementation (modules_of n) c v → r ≡ None → true ≡ implementation_named the c v
+    unfolding implementation_named handed answered if_there
+    no_implementation e f =
+        sym (ap (λ (o : Option ℕ). if_there o (λ i. valid_implementation (name_at (tables_of cs vs fs is).impls i)))
+        (sym e ∙ ap answered f))
 
-      pub implementation_is : {k i : ℕ} {w : Text} {r : Bool} → has_version (specs_of s n) c v ≡ true → not m ≡ false
-          → k ≡ or_else (implementation (modules_of n) c v) 0 → i ≡ k → w ≡ name_at (table_of 256 is) i → r ≡ valid_implementation w
-          → r ≡ implementation_named the c v
-      unfolding implementation_named handed tables_of if_there or_else
-      implementation_is h y ek ei ew er =
-          let q = is_some_out (implementation (modules_of n) c v) (ap is_some (implementation_plain s n c v
-          ∙ if-true _ _ _ (sym (is_module_plain s n c) ∙ sym e ∙ not-false m y)) ∙ option_map-some _ _ ∙ sym (has_version_plain s n c v) ∙ h) in
-          er ∙ ap valid_implementation (ew ∙ ap (name_at (table_of 256 is)) (ei ∙ ek ∙ ap (λ (o : Option ℕ). or_else o 0) q.1))
-          ∙ sym (ap (λ (o : Option ℕ). if_there o (λ i. valid_implementation (name_at (table_of 256 is) i))) q.1)
+    pub implementation_is : {r : Found ℕ} {k i : ℕ} {w : Text} {b : Bool} → answered r ≡ implementation (modules_of n) c v → r ≡ Some k
+        → i ≡ k → w ≡ name_at (table_of 256 is) i → b ≡ valid_implementation w → b ≡ implementation_named the c v
+    unfolding implementation_named handed answered tables_of if_there
+    implementation_is e f ei ew eb =
+        eb ∙ ap valid_implementation (ew ∙ ap (name_at (table_of 256 is)) ei)
+        ∙ sym (ap (λ (o : Option ℕ). if_there o (λ i. valid_implementation (name_at (table_of 256 is) i))) (sym e ∙ ap answered f))
 
     pub version_is : (x : ℕ) {w : Text} {a b d : Bool} → w ≡ name_at (table_of 64 vs) v → a ≡ valid_name w
         → bit x ≡ requires (specs_of s n) c v → b ≡ all 64 (named_if (table_of 64 fs) (bit x)) → d ≡ implementation_named the c v
@@ -151,14 +146,10 @@ module _ (s n cs vs fs is : List ℕ) (c : ℕ) where
     version_is x ew ea ex eb ed =
         ap₂ ◌&◌ (ea ∙ ap valid_name ew) (ap₂ ◌&◌ (eb ∙ ap (λ (p : Set). all 64 (named_if (table_of 64 fs) p)) ex) ed)
 
-    module _ {m : Bool} (e : m ≡ has_version (specs_of s n) c v) where
-      pub version_asked : {r : Bool} → m ≡ true → r ≡ version_named the c v → r ≡ version_if the c v
-      unfolding version_if handed
-      version_asked y q = imp_asked _ (sym e ∙ y) q
-
-      pub version_skip : m ≡ false → true ≡ version_if the c v
-      unfolding version_if handed
-      version_skip y = imp_skip _ _ (sym e ∙ y)
+    pub version_if_is : {m d r : Bool} → m ≡ has_version (specs_of s n) c v → d ≡ version_named the c v → r ≡ (not m || d)
+        → r ≡ version_if the c v
+    unfolding version_if handed
+    version_if_is e f g = g ∙ imp_is _ _ ∙ ap₂ ◌⇒◌ e f
 
   pub component_is : (x : ℕ) {w : Text} {a b d : Bool} → w ≡ name_at (table_of 32 cs) c → a ≡ valid_name w
       → bit x ≡ provides (specs_of s n) c → b ≡ all 64 (named_if (table_of 64 fs) (bit x)) → d ≡ all 64 (version_if the c)
@@ -167,16 +158,12 @@ module _ (s n cs vs fs is : List ℕ) (c : ℕ) where
   component_is x ew ea ex eb ed =
       ap₂ ◌&◌ (ea ∙ ap valid_name ew) (ap₂ ◌&◌ (eb ∙ ap (λ (p : Set). all 64 (named_if (table_of 64 fs) p)) ex) ed)
 
-  module _ {m : Bool} (e : m ≡ specified (specs_of s n) c) where
-    pub component_asked : {r : Bool} → m ≡ true → r ≡ component_named the c → r ≡ component_if the c
-    unfolding component_if handed
-    component_asked y q = imp_asked _ (sym e ∙ y) q
+  pub component_if_is : {m d r : Bool} → m ≡ specified (specs_of s n) c → d ≡ component_named the c → r ≡ (not m || d)
+      → r ≡ component_if the c
+  unfolding component_if handed
+  component_if_is e f g = g ∙ imp_is _ _ ∙ ap₂ ◌⇒◌ e f
 
-    pub component_skip : m ≡ false → true ≡ component_if the c
-    unfolding component_if handed
-    component_skip y = imp_skip _ _ (sym e ∙ y)
-
-pub hold_is : (s n cs vs fs is : List ℕ) {a b d x y : Bool} → a ≡ all 32 (component_if (handed s n cs vs fs is))
+pub hold_is : (s n : List ℕ) (cs vs fs is : Rows) {a b d x y : Bool} → a ≡ all 32 (component_if (handed s n cs vs fs is))
     → b ≡ none_twice (table_of 32 cs) → d ≡ none_twice (table_of 64 vs) → x ≡ none_twice (table_of 64 fs) → y ≡ none_twice (table_of 256 is)
     → (a && (b && (d && (x && y)))) ≡ names_hold (handed s n cs vs fs is)
 unfolding names_hold component_if handed tables_of ◌&◌

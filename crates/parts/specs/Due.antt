@@ -1,10 +1,9 @@
 -- The next row, from tables: the parts stand in m, the pairs that are listed in t.
-use Rattle.std.specs.Prelude.{Bool, List, ◌≡◌, ◌-◌, ℕ}
-use Rattle.std.proofs.Math.Option.{Option}
+use Rattle.std.specs.Prelude.{Bool, List, None, Option as Found, Some, ℕ}
+use Rattle.std.proofs.Math.Option.{Option, none, some}
 use Rattle.model.specs.Book.{Pair, Systems, components, member, versions}
 use Rattle.model.specs.Lists.{first_from}
 use Rattle.model.specs.Maps.{if_there, only_if}
-use Rattle.model.specs.PartsList.{first_pair}
 use Rattle.parts.specs.Marks.{marked}
 use Rattle.sets.specs.Tests.{◌&◌, all, ~◌}
 
@@ -24,10 +23,7 @@ due_in Y m t d w = (marked m d w & ~ marked t d w) & members_in Y t d w
 unfoldable pub first_version : (ℕ → ℕ → Bool) → ℕ → Option Pair
 first_version test d = first_from versions 0 (λ w. only_if (test d w) (d, w))
 
--- A loop has come to the version i: none of d below it passes the test.
-unfoldable pub VersionFrom : (ℕ → ℕ → Bool) → ℕ → ℕ → Type 0
-VersionFrom test d i = first_version test d ≡ first_from (64 - i) i (λ w. only_if (test d w) (d, w))
-
--- A loop has come to the component i: no pair of a lower one passes the test.
-unfoldable pub PairFrom : (ℕ → ℕ → Bool) → ℕ → Type 0
-PairFrom test i = first_pair test ≡ first_from (32 - i) i (first_version test)
+-- what was found: a pair, or none
+unfoldable pub pair_found : Found Pair → Option Pair
+pair_found (Some q) = some q
+pair_found None = none

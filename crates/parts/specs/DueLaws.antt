@@ -1,40 +1,39 @@
 -- Laws of the search for the next row: one for each way out and each turn.
-use Rattle.std.specs.Prelude.{Bool, None, Option as Found, Some, false, not, true, List, ◌≡◌, get_or}
+use Rattle.std.specs.Prelude.{Bool, IfSome, None, Option as Found, Some, false, true, List, ◌≡◌, get_or}
 use Rattle.std.proofs.Math.Logic.{inl, inr}
-use Rattle.std.proofs.Math.Option.{Option, none, some, some-injective}
+use Rattle.std.proofs.Math.Option.{Option, none, some}
 use Rattle.std.proofs.Common.{◌∙◌}
 use Rattle.std.proofs.Math.Path.{ap, fun_ext, refl, sym}
-use Prim.Native.Nat.{◌%◌, ◌*◌, ◌+◌, ◌-◌, ◌/◌, ◌<◌, ◌≤◌, suc, ℕ}
+use Prim.Native.Nat.{◌+◌, ◌-◌, ◌<◌, ◌≤◌, suc, ℕ}
 use native.Mathlib.Omega.{arith}
-use borrow.Author.Tests.{not-false, not-true}
-use Rattle.model.specs.Book.{Book, Pair, Systems, components, has_version, is_member, member, versions}
+use Rattle.model.specs.Book.{Book, Pair, Systems, components, has_version, member, versions}
 use Rattle.model.specs.Lists.{first_from}
-use Rattle.model.specs.Maps.{else_try, if_there, only_if, option_map}
+use Rattle.model.specs.Maps.{else_try, if_there, only_if}
 use Rattle.model.specs.PartsList.{due, first_pair, listed, members_listed, next_row}
-use Rattle.parts.specs.Due.{PairFrom, VersionFrom, due_in, first_version, member_in, members_in}
-use Rattle.parts.specs.Listed.{row_number}
+use Rattle.sets.specs.Answered.{answered}
+use Rattle.book_rules.specs.RuleLaws.{and_first, and_second}
+use Rattle.parts.specs.Due.{pair_found, due_in, first_version, member_in, members_in}
 use Rattle.parts.specs.Marks.{PartsIn, marked}
 use Rattle.sets.specs.Answered.{answered}
 use Rattle.sets.specs.Sets.{Set, bit, minus, subset}
-use Rattle.sets.specs.TestLaws.{all_cong, all_out, and-false, and_in, and_l, and_r, and-true, clash, iff→≡, imp_out, not_out}
+use Rattle.sets.specs.TestLaws.{all_cong, all_out, and_in, and_l, and_r, clash, iff→≡, imp_out, not_out}
 use Rattle.sets.specs.Tests.{◌&◌, ~◌}
 use Rattle.model_laws.specs.Good.{Good}
 use Rattle.model_laws.specs.ListLaws.{first_from-some, only_some}
-use Rattle.model_laws.specs.MapLaws.{if_there_cong, is_some_no, no_some, option?}
+use Rattle.model_laws.specs.MapLaws.{if_there_cong, option?}
 use Rattle.model_laws.specs.Parts.{part_has_version}
 
 -- ---- the members of a pair
 
 module _ (Y : Systems) (t : List ℕ) (d w e : ℕ) where
   -- e is no member
-  pub no_member : (y : ℕ) {b : Bool} → bit y ≡ is_member Y d w → b ≡ bit y e → not b ≡ true → true ≡ member_in Y t d w e
-  unfolding member_in is_member if_there
-  no_member y {b} ey eb f =
-      sym (ap (λ (o : Option ℕ). if_there o (λ x. marked t e x)) (is_some_no _ (sym (ap (λ (a : Set). a e) ey) ∙ sym eb ∙ not-true b f)))
+  pub no_member : answered None ≡ member Y d w e → true ≡ member_in Y t d w e
+  unfolding answered member_in if_there
+  no_member em = ap (λ (o : Option ℕ). if_there o (λ x. marked t e x)) em
 
-  pub member_marked : (x : ℕ) {b : Bool} → member Y d w e ≡ some x → b ≡ bit (get_or t e 0) x → b ≡ member_in Y t d w e
-  unfolding member_in if_there marked
-  member_marked x em eb = eb ∙ sym (ap (λ (o : Option ℕ). if_there o (λ x. marked t e x)) em)
+  pub member_marked : (x : ℕ) {b : Bool} → answered (Some x) ≡ member Y d w e → b ≡ bit (get_or t e 0) x → b ≡ member_in Y t d w e
+  unfolding answered member_in if_there marked
+  member_marked x em eb = eb ∙ ap (λ (o : Option ℕ). if_there o (λ x. marked t e x)) em
 
 -- ---- a pair
 
@@ -43,13 +42,13 @@ module _ (Y : Systems) (m t : List ℕ) (d w z : ℕ) (ez : bit z ≡ minus (bit
   unfolding minus marked
   is_open = eb ∙ ap (λ (a : Set). a w) ez
 
-  pub not_open : not b ≡ true → false ≡ due_in Y m t d w
+  pub not_open : b ≡ false → b ≡ due_in Y m t d w
   unfolding due_in
-  not_open f = sym (and-false _ _ (sym is_open ∙ not-true b f))
+  not_open f = and_first _ _ is_open f
 
-  pub if_open : {x : Bool} → not b ≡ false → x ≡ members_in Y t d w → x ≡ due_in Y m t d w
+  pub if_open : {x : Bool} → b ≡ true → x ≡ members_in Y t d w → x ≡ due_in Y m t d w
   unfolding due_in
-  if_open y e = e ∙ sym (and-true _ _ (sym is_open ∙ not-false b y))
+  if_open y e = and_second _ _ is_open y e
 
 -- ---- the first of several
 
@@ -76,73 +75,28 @@ module _ {A : Type 0} (n : ℕ) (f : ℕ → Option A) where
   unfolding first_from
   first_end i h a = let k : n - i ≡ 0 = omega arith in a ∙ ap (λ (x : ℕ). first_from x i f) k
 
--- ---- the number of a row
+-- ---- the first version of d that is due, and the first pair
 
-row_is : (o : Option Pair) (q : Pair) → o ≡ some q → some (row_number q) ≡ option_map row_number o
-unfolding option_map
-row_is o q e = sym (ap (option_map row_number) e)
+module _ (test : ℕ → ℕ → Bool) (d w : ℕ) {b : Bool} (e : b ≡ test d w) where
+  pub version_found : b ≡ true → pair_found (Some (d, w)) ≡ only_if (test d w) (d, w)
+  unfolding pair_found only_if
+  version_found y = sym (ap (λ (t : Bool). only_if t (d, w)) (sym e ∙ y))
 
-is_none : (o : Option Pair) → o ≡ none → none ≡ option_map row_number o
-unfolding option_map
-is_none o e = sym (ap (option_map row_number) e)
-
-no_row : (o : Option Pair) → none ≡ option_map row_number o → o ≡ none
-unfolding option_map
-no_row none e = refl
-no_row (some q) e = no_some e
-
-a_row : (o : Option Pair) (x : ℕ) → some x ≡ option_map row_number o → (q : Pair) × (o ≡ some q) × (x ≡ row_number q)
-unfolding option_map
-a_row none x e = no_some (sym e)
-a_row (some q) x e = (q, refl, some-injective _ _ e)
-
-module _ (g : Found ℕ) (o : Option ℕ) (e : answered g ≡ o) where
-  answered_none : g ≡ None → none ≡ o
-  unfolding answered
-  answered_none h = sym (ap answered h) ∙ e
-
-  answered_some : (x : ℕ) → g ≡ Some x → some x ≡ o
-  unfolding answered
-  answered_some x h = sym (ap answered h) ∙ e
-
--- ---- the first version of d that is due
-
-module _ (test : ℕ → ℕ → Bool) (d : ℕ) where
-  pub version_start : VersionFrom test d 0
-  unfolding VersionFrom first_version
-  version_start = refl
-
-  module _ (i : ℕ) {b : Bool} (l : i < 64) (a : VersionFrom test d i) (e : b ≡ test d i) where
-    pub version_turn : b ≡ false → VersionFrom test d (i + 1)
-    unfolding VersionFrom first_version only_if
-    version_turn f = first_turn 64 _ i l a (ap (λ (t : Bool). only_if t (d, i)) (sym e ∙ f))
-
-    pub version_stop : b ≡ true → some (d * 64 + i) ≡ option_map row_number (first_version test d)
-    unfolding VersionFrom first_version only_if row_number
-    version_stop y = row_is _ _ (first_stop 64 (λ w. only_if (test d w) (d, w)) i (d, i) l a (ap (λ (t : Bool). only_if t (d, i)) (sym e ∙ y)))
-
-  pub version_end : (i : ℕ) → 64 ≤ i → VersionFrom test d i → none ≡ option_map row_number (first_version test d)
-  unfolding VersionFrom first_version
-  version_end i h a = is_none _ (first_end 64 (λ w. only_if (test d w) (d, w)) i h a)
+  pub version_passed : b ≡ false → pair_found None ≡ only_if (test d w) (d, w)
+  unfolding pair_found only_if
+  version_passed f = sym (ap (λ (t : Bool). only_if t (d, w)) (sym e ∙ f))
 
 -- the parts among the versions of d are all listed
 pub none_open : (Y : Systems) (m t : List ℕ) (d : ℕ) {b : Bool} → b ≡ subset 64 (bit (get_or m d 0)) (bit (get_or t d 0)) → b ≡ true
-    → none ≡ option_map row_number (first_version (due_in Y m t) d)
-unfolding first_version due_in marked subset
+    → pair_found None ≡ first_version (due_in Y m t) d
+unfolding first_version due_in marked subset pair_found
 none_open Y m t d e y = elim (option? (first_version (due_in Y m t) d)) [
-  | inl n ↦ is_none _ n
+  | inl n ↦ sym n
   | inr q ↦ (let i = first_from-some versions 0 _ q.0 q.1 in let o = and_l _ _ (only_some _ _ q.0 i.2).0 in
       clash (imp_out _ _ (all_out 64 _ (sym e ∙ y) i.0 (omega (arith, i.1))) (and_l _ _ o)) (not_out _ (and_r _ _ o)))
 ]
 
--- ---- the first pair that is due
-
 module _ (test : ℕ → ℕ → Bool) where
-  pub pair_start : PairFrom test 0
-  unfolding PairFrom first_pair first_version
-  pair_start = refl
-
-  -- the row of a version of d
   version_some : (d : ℕ) (q : Pair) → first_version test d ≡ some q → (q.0 ≡ d) × (q.1 < 64)
   unfolding first_version
   version_some d q e =
@@ -150,46 +104,17 @@ module _ (test : ℕ → ℕ → Bool) where
       let z = only_some (test d i.0) (d, i.0) q i.2 in
       (sym (ap (λ (x : Pair). x.0) z.1), omega (arith, i.1, ap (λ (x : Pair). x.1) z.1))
 
-  -- g is the row that was found of the component i
-  module _ (i : ℕ) (l : i < 32) (a : PairFrom test i) (g : Found ℕ) (e : answered g ≡ option_map row_number (first_version test i)) where
-    pub pair_turn : g ≡ None → PairFrom test (i + 1)
-    unfolding PairFrom first_pair first_version
-    pair_turn h = first_turn 32 (first_version test) i l a (no_row _ (answered_none g _ e h))
-
-    pub pair_stop : (x : ℕ) → g ≡ Some x → some x ≡ option_map row_number (first_pair test)
-    unfolding PairFrom first_pair first_version
-    pair_stop x h =
-        let k = answered_some g _ e x h in let q = a_row (first_version test i) x k in
-        k ∙ ap (option_map row_number) (q.1 ∙ sym (first_stop 32 (first_version test) i q.0 l a q.1))
-
-  pub pair_end : (i : ℕ) → 32 ≤ i → PairFrom test i → none ≡ option_map row_number (first_pair test)
-  unfolding PairFrom first_pair first_version
-  pair_end i h a = is_none _ (first_end 32 (first_version test) i h a)
-
-  -- ---- the row that was found
-
-  pair_some : (q : Pair) → first_pair test ≡ some q → (q.0 < 32) × (q.1 < 64)
-  unfolding first_pair
-  pair_some q e =
-      let o = first_from-some components 0 _ q e in
-      let z = version_some o.0 q (unfold first_version in o.2) in
+  -- the limits of the pair that was found
+  pub pair_low : (q : Pair) → pair_found (Some q) ≡ first_pair test → (q.0 < 32) × (q.1 < 64)
+  unfolding first_pair pair_found first_version
+  pair_low q e =
+      let o = first_from-some components 0 _ q (sym e) in
+      let z = version_some o.0 q o.2 in
       (omega (arith, z.0, o.1), z.1)
 
-  module _ (g : Found ℕ) (e : answered g ≡ option_map row_number (first_pair test)) where
-    pub row_some : (x : ℕ) → g ≡ Some x
-        → (q : Pair) × (first_pair test ≡ some q) × (x ≡ row_number q) × (x / 64 ≡ q.0) × (x % 64 ≡ q.1) × (q.0 < 32) × (q.1 < 64)
-    unfolding row_number
-    row_some x h =
-        let q = a_row (first_pair test) x (answered_some g _ e x h) in
-        let z = pair_some q.0 q.1 in
-        let k : x ≡ q.0.0 * 64 + q.0.1 = q.2 in
-        (q.0, q.1, k, omega (arith, k, z.0, z.1), omega (arith, k, z.0, z.1), z.0, z.1)
-
-    pub row_low : (x : ℕ) → g ≡ Some x → x < 2048
-    row_low x h = let q = row_some x h in omega (arith, q.3, q.5)
-
-    pub row_none : g ≡ None → first_pair test ≡ none
-    row_none h = no_row _ (answered_none g _ e h)
+  pub pair_bounds : (r : Found Pair) → pair_found r ≡ first_pair test → IfSome r (λ q. (q.0 < 32) × (q.1 < 64))
+  pair_bounds (Some q) e = pair_low q e
+  pair_bounds None e = tt
 
 -- ---- what the tables say of the plain book
 

@@ -1,71 +1,45 @@
 -- The answers of the call for a parts list, from its questions, and what it leaves in the slice.
-use Rattle.std.specs.Prelude.{Bool, false, not, true, ◌∷◌, [], ◌≡◌, refl, ◌+◌, ◌<◌, ◌≤◌, suc, zero, ℕ, length, take}
+use Rattle.std.specs.Prelude.{Bool, true, ◌∷◌, [], ◌≡◌, refl, ◌+◌, ◌<◌, ◌≤◌, suc, zero, ℕ, length, take}
 use mathlib.Core.List.{List}
 use Rattle.std.proofs.Common.{◌∙◌, arith, inl, inr}
 use Rattle.std.proofs.Math.Path.{ap, sym}
-use borrow.Author.Tests.{not-false, not-true}
 use Rattle.book.specs.Plain.{plain_of, systems_of}
-use Rattle.model.specs.Book.{Book, has_version, specified}
+use Rattle.model.specs.Book.{Book, has_version}
 use Rattle.model.specs.PartsList.{how_many_systems, parts}
 use Rattle.model.specs.Queries.{PARTS, asked}
 use Rattle.model.specs.Questions.{first_no}
 use Rattle.parts.specs.Listed.{Listed, parts_answer, parts_asked}
+use Rattle.query_replies.specs.Replied.{of_pair}
 use Rattle.parts.specs.RowLaws.{rows_are}
 use Rattle.parts.specs.Rows.{AllRows}
 use Rattle.book_rules.specs.Test.{passes}
-use Rattle.book_rules.specs.TestLaws.{passes_plain, passes_sound}
+use Rattle.book_rules.specs.TestLaws.{passes_sound}
 use Rattle.seqs.specs.Filled.{filled}
-use Rattle.sets.specs.TestLaws.{<?_in, <?_out, and-false, and_in, and-true, bool?, fails, if-false, if-true, ≤?_in, ≤?_out}
-use Rattle.sets.specs.Tests.{◌<?◌, ◌≤?◌, if?◌then◌else◌}
+use Rattle.sets.specs.TestLaws.{<?_in, <?_out, and-false, and-true, bool?, fails, if-false, if-true, ≤?_in, ≤?_out}
+use Rattle.sets.specs.Sets.{Set, below, bit}
+use Rattle.sets.specs.Tests.{◌<?◌, ◌≤?◌, count, if?◌then◌else◌}
+use Rattle.model_laws.specs.RisingLaws.{rising-length, rising_narrow}
 use Rattle.model_laws.specs.Accepted.{Numbered, all_yes}
 use Rattle.model_laws.specs.FirstNoLaws.{none-asked, others_asked}
-use Rattle.model_laws.specs.Good.{passes→good}
 use Rattle.model_laws.specs.Heights.{longest_chain_lem}
 use Rattle.model_laws.specs.Meaning.{first_no_lem, no_no}
-use Rattle.model_laws.specs.Notions.{no_here, none_left, yes_all, yes_here}
-use Rattle.model_laws.specs.Parts.{pair_limits}
-
-too_large : (l c : ℕ) → l ≤ c → (c <? l) ≡ false
-too_large l c h = fails _ (λ t. omega (arith, h, <?_out _ _ t))
+use Rattle.model_laws.specs.Notions.{no_here, none_left, yes_all}
 
 -- ---- the questions 1, 4 and 10
 
 module _ (b : Book) (c v : ℕ) where
-  pub no_1 : 32 ≤ c → 1 ≡ first_no (asked b (PARTS c v))
-  unfolding asked
-  no_1 h = sym (first_no_lem (no_here (and-false _ _ (too_large _ _ h))))
-
-  module _ (c< : c < 32) where
-    pub no_1v : 64 ≤ v → 1 ≡ first_no (asked b (PARTS c v))
-    unfolding asked
-    no_1v h = sym (first_no_lem (no_here (and-true _ _ (<?_in _ _ c<) ∙ too_large _ _ h)))
-
-    module _ (v< : v < 64) {x : Bool} (ex : x ≡ specified b.specs c) where
-      pub no_4 : not x ≡ true → 4 ≡ first_no (asked b (PARTS c v))
-      unfolding asked
-      no_4 z = sym (first_no_lem (yes_here (and_in _ _ (<?_in _ _ c<) (<?_in _ _ v<)) (no_here (sym ex ∙ not-true x z))))
-
-      module _ (yx : not x ≡ false) {y : Bool} (ey : y ≡ has_version b.specs c v) where
-        pub no_10 : not y ≡ true → 10 ≡ first_no (asked b (PARTS c v))
-        unfolding asked
-        no_10 z = sym (first_no_lem (yes_here (and_in _ _ (<?_in _ _ c<) (<?_in _ _ v<)) (yes_here (sym ex ∙ not-false x yx) (no_here (sym ey ∙ not-true y z)))))
-
-        pub no_none : not y ≡ false → 0 ≡ first_no (asked b (PARTS c v))
-        unfolding asked
-        no_none z = sym (no_no (yes_all (and_in _ _ (<?_in _ _ c<) (<?_in _ _ v<)) (yes_all (sym ex ∙ not-false x yx) (yes_all (sym ey ∙ not-false y z) none_left))))
+  pub asked_is : {a : ℕ} → a ≡ first_no (of_pair b c v) → a ≡ first_no (asked b (PARTS c v))
+  unfolding asked of_pair
+  asked_is e = e
 
   numbered : Numbered (asked b (PARTS c v))
   unfolding asked
   numbered = (omega arith, (omega arith, (omega arith, tt)))
 
   -- a version that they let through is stored
-  pub stored : 0 ≡ first_no (asked b (PARTS c v)) → has_version b.specs c v ≡ true
+  pub stored : 0 ≡ first_no (of_pair b c v) → has_version b.specs c v ≡ true
   unfolding asked
-  stored e = (all_yes (asked b (PARTS c v)) numbered (sym e)).1.1.0
-
-pub version_found : (s n : List ℕ) (c v : ℕ) → passes s n ≡ true → 0 ≡ first_no (asked (plain_of s n) (PARTS c v)) → (c < 32) × (v < 64)
-version_found s n c v good e =
-    let k = stored (plain_of s n) c v e in pair_limits (plain_of s n) (passes→good (passes_plain s n good)) c v k c v k
+  stored e = (all_yes (asked b (PARTS c v)) numbered (sym (asked_is e))).1.1.0
 
 -- ---- and 22
 
@@ -135,3 +109,11 @@ module _ (s n : List ℕ) (c v : ℕ) (old : List ℕ) where
           at_most = omega (arith, ex);
         };
       }
+
+-- ---- the systems are counted
+
+pub systems_counted : (f : ℕ → Bool) (x : ℕ) → bit x ≡ below 32 f → count 64 (bit x) ≡ count 32 f
+unfolding below
+systems_counted f x e = sym (rising-length 64 (bit x)) ∙ ap length (rising_narrow 32 64 (bit x) f (omega arith)
+    (λ d l. ap (λ (a : Set). a d) e ∙ and-true _ _ (<?_in _ _ l))
+    (λ d l. ap (λ (a : Set). a d) e ∙ and-false _ _ (fails _ (λ t. omega (arith, <?_out _ _ t, l))))) ∙ rising-length 32 f

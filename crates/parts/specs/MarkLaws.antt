@@ -1,23 +1,26 @@
 -- How the parts of a pair are marked: one law for each way out of the walk, and for each turn.
-use Rattle.std.specs.Prelude.{Bool, false, true, List, ◌⊎◌, ◌≡◌, refl, ◌+◌, ◌<◌, ◌≤◌, suc, zero, ℕ, get_or, length, replicate, set}
+use Rattle.std.specs.Prelude.{Bool, None, Some, false, true, List, ◌⊎◌, ◌≡◌, refl, ◌+◌, ◌<◌, ◌≤◌, suc, zero, ℕ, get_or, length, replicate, set}
 use Rattle.std.proofs.Math.Logic.{inl, inr}
 use Rattle.std.proofs.Math.Option.{some-injective, some}
 use Rattle.std.proofs.Common.{◌∙◌, ap₂, subst, not-suc-le-zero, arith, length-set, get_or-set_other, get_or-set_same}
 use Rattle.std.proofs.Math.Path.{ap, sym}
 use Rattle.std.proofs.lemmas.List.{length-replicate}
-use Rattle.model.specs.Book.{Book, Systems, has_version, is_member, member}
+use Rattle.model.specs.Book.{Book, Systems, has_version, member}
 use Rattle.model.specs.Limits.{SystemLimits}
 use Rattle.parts.specs.Marks.{Closed, Marked, Marking, Onto, PartsIn, marked}
 use Rattle.sets.specs.SetLaws.{bit_zero}
 use Rattle.sets.specs.Sets.{Set, bit, with}
 use Rattle.sets.specs.TestLaws.{=?-not, =?-out, =?-same, and-false, and_in, and_l, and_r, and-true, clash, iff→≡, or-false, or_l, or_out, or_r, same?}
 use Rattle.sets.specs.Tests.{◌&◌, ◌=?◌, ◌or◌}
-use Rattle.model_laws.specs.Good.{Good}
-use Rattle.model_laws.specs.Heights.{falls}
-use Rattle.model_laws.specs.MapLaws.{is_some_in, is_some_out}
+use Rattle.book.specs.Plain.{plain_of}
+use Rattle.book_rules.specs.Test.{passes}
+use Rattle.book_rules.specs.TestLaws.{passes_plain}
+use Rattle.sets.specs.Answered.{answered}
+use Rattle.model_laws.specs.Good.{Good, passes→good}
+use Rattle.model_laws.specs.MapLaws.{no_some}
 use Rattle.model_laws.specs.Meaning.{part_means}
-use Rattle.model_laws.specs.Notions.{MadeFrom, itself, member_of, systems_below}
-use Rattle.model_laws.specs.Parts.{good→sound}
+use Rattle.model_laws.specs.Parts.{pair_limits}
+use Rattle.model_laws.specs.Notions.{MadeFrom, itself, member_of}
 
 -- ---- one pair more
 
@@ -49,13 +52,14 @@ module _ (Y : Systems) (c v : ℕ) where
   below m (member_of q k) = member_of (below m q) k
 
   -- a turn: the member m, with its version u, is walked
-  pub marking_turn : (m u : ℕ) (t t₁ t₂ : List ℕ) → Marking Y c v m t t₁ → member Y c v m ≡ some u → Marked Y m u t₁ t₂
+  pub marking_turn : (m u : ℕ) (t t₁ t₂ : List ℕ) → Marking Y c v m t t₁ → answered (Some u) ≡ member Y c v m → Marked Y m u t₁ t₂
       → Marking Y c v (m + 1) t t₂
+  unfolding answered
   marking_turn m u t t₁ t₂ k em z = record {
     onto = record {
       closed = z.onto.closed;
       kept = λ d w y. z.onto.kept d w (k.onto.kept d w y);
-      only = λ d w y. elim (z.onto.only d w y) [ inl a ↦ k.onto.only d w a | inr a ↦ inr (below em a) ];
+      only = λ d w y. elim (z.onto.only d w y) [ inl a ↦ k.onto.only d w a | inr a ↦ inr (below (sym em) a) ];
     };
     done = λ e x l h. elim (same? e m) [
       | inl q ↦ subst (λ (i : ℕ). marked t₂ i x ≡ true) (sym q) (subst (λ (i : ℕ). marked t₂ m i ≡ true) (the x q h) z.itself)
@@ -64,16 +68,15 @@ module _ (Y : Systems) (c v : ℕ) where
   }
     where
       the : {e : ℕ} (x : ℕ) → e ≡ m → member Y c v e ≡ some x → u ≡ x
-      the x q h = some-injective _ _ (sym em ∙ sym (ap (λ (i : ℕ). member Y c v i) q) ∙ h)
+      the x q h = some-injective _ _ (em ∙ sym (ap (λ (i : ℕ). member Y c v i) q) ∙ h)
 
   -- m is no member
-  pub marking_skip : (m y : ℕ) (t t₁ : List ℕ) {b : Bool} → Marking Y c v m t t₁ → bit y ≡ is_member Y c v → b ≡ bit y m → b ≡ false
-      → Marking Y c v (m + 1) t t₁
-  unfolding is_member
-  marking_skip m y t t₁ k ey eb f = record {
+  pub marking_skip : (m : ℕ) (t t₁ : List ℕ) → Marking Y c v m t t₁ → answered None ≡ member Y c v m → Marking Y c v (m + 1) t t₁
+  unfolding answered
+  marking_skip m t t₁ k em = record {
     onto = k.onto;
     done = λ e x l h. elim (same? e m) [
-      | inl q ↦ clash (is_some_in _ h) (ap (λ (i : ℕ). is_member Y c v i) q ∙ sym (ap (λ (a : Set). a m) ey) ∙ sym eb ∙ f)
+      | inl q ↦ no_some (em ∙ sym (ap (λ (i : ℕ). member Y c v i) q) ∙ h)
       | inr n ↦ k.done e x (omega arith) h
     ];
   }
@@ -111,17 +114,18 @@ module _ (Y : Systems) (c v : ℕ) where
       out : (d w : ℕ) → marked (set t₁ c x) d w ≡ true → ((d ≡ c) × (w ≡ v)) ⊎ (marked t₁ d w ≡ true)
       out d w y = elim (or_out _ _ (sym (one d w) ∙ y)) [ inl q ↦ inl (=?-out _ _ (and_l _ _ q), =?-out _ _ (and_r _ _ q)) | inr q ↦ inr q ]
 
--- the member m of the pair c, v, where the walk goes on: fewer systems are below it, and its numbers are below their limits
+-- the member m of the pair c, v, where the walk goes on: its numbers are below their limits
 module _ (b : Book) (g : Good b) (c v m : ℕ) where
-  pub walk_falls : (z y : ℕ) {t : Bool} → systems_below b.systems c ≡ z → bit y ≡ is_member b.systems c v → t ≡ bit y m → t ≡ true
-      → systems_below b.systems m < z
-  unfolding is_member
-  walk_falls z y ez ey et t =
-      let o = is_some_out _ (sym (ap (λ (a : Set). a m) ey) ∙ sym et ∙ t) in
-      rw (sym ez) (falls b.systems (good→sound b g) c m ((good→sound b g).mem_usable c v m o.0 o.1))
+  pub walk_limits : (w : ℕ) → answered (Some w) ≡ member b.systems c v m → (m < 32) × (w < 64)
+  unfolding answered
+  walk_limits w e = g.system_limits.member< c v m w (sym e)
 
-  pub walk_limits : (w : ℕ) → member b.systems c v m ≡ some w → (m < 32) × (w < 64)
-  walk_limits w e = g.system_limits.member< c v m w e
+pub good_book : (s n : List ℕ) → passes s n ≡ true → Good (plain_of s n)
+good_book s n t = passes→good (passes_plain s n t)
+
+-- the limits of a version that is stored
+pub stored_low : (s n : List ℕ) (c v : ℕ) → passes s n ≡ true → has_version (plain_of s n).specs c v ≡ true → (c < 32) × (v < 64)
+stored_low s n c v t k = pair_limits (plain_of s n) (good_book s n t) c v k c v k
 
 -- ---- the whole walk
 

@@ -1,21 +1,20 @@
 -- Laws of the loop that finds the rows.
-use Rattle.std.specs.Prelude.{Bool, None, Option as Found, Some, true, List, [], ◌++◌, ◌∷◌, map, ◌≡◌, refl, ◌%◌, ◌+◌, ◌-◌, ◌/◌, ◌<◌, ◌≤◌, suc, ℕ, get_or, length, replicate, set, take}
+use Rattle.std.specs.Prelude.{Bool, None, Some, true, List, [], ◌++◌, ◌∷◌, map, ◌≡◌, refl}
+use Rattle.std.specs.Prelude.{◌*◌, ◌+◌, ◌-◌, ◌<◌, ◌≤◌, suc, ℕ, get_or, length, replicate, set, take}
 use Rattle.std.proofs.Common.{append_assoc, append-nil, ◌∙◌, ap₂, subst, arith, length-append, length-set}
 use Rattle.std.proofs.lemmas.List.{map-append, length-map, length-replicate}
 use Rattle.std.proofs.Math.Path.{ap, sym}
 use Rattle.std.proofs.Math.Seq.{take_at}
 use Rattle.model.specs.Book.{Book, Pair, has_version}
-use Rattle.model.specs.Maps.{option_map}
 use Rattle.model.specs.PartsList.{first_pair, listed, next_row, parts, rows_from}
-use Rattle.parts.specs.Due.{due_in}
-use Rattle.parts.specs.DueLaws.{next_same, row_none, row_some}
+use Rattle.parts.specs.Due.{due_in, pair_found}
+use Rattle.parts.specs.DueLaws.{next_same, pair_low}
 use Rattle.parts.specs.Listed.{row_number}
 use Rattle.parts.specs.MarkLaws.{mark_one, no_marks}
-use Rattle.parts.specs.Marks.{PartsIn, marked}
+use Rattle.parts.specs.Marks.{PartsIn}
 use Rattle.parts.specs.Rows.{AllRows, RowsTo}
 use Rattle.seqs.specs.Filled.{filled}
 use Rattle.seqs.specs.FilledLaws.{filled-length, filled_none, filled-set}
-use Rattle.sets.specs.Answered.{answered}
 use Rattle.sets.specs.Sets.{bit, with}
 use Rattle.sets.specs.Tests.{◌&◌, ◌=?◌, ◌or◌}
 use Rattle.model_laws.specs.Good.{Good}
@@ -54,35 +53,34 @@ rows_full b c v k t a z h h' =
     (ended b c v k t a z h (ap (λ (n : ℕ). rows_from n b c v z.back) e ∙ rows_from_zero b c v z.back))
 
 module _ (b : Book) (g : Good b) (c v : ℕ) (has_it : has_version b.specs c v ≡ true) (m : List ℕ) (pm : PartsIn b.systems c v m)
-    (k : ℕ) (t a : List ℕ) (z : RowsTo b c v k t a) (l : k < 256) (found : Found ℕ)
-    (e : answered found ≡ option_map row_number (first_pair (due_in b.systems m t))) where
+    (k : ℕ) (t a : List ℕ) (z : RowsTo b c v k t a) (l : k < 256) where
   next_is : next_row b c v z.back ≡ first_pair (due_in b.systems m t)
   next_is = next_same b g c v has_it m t z.back pm z.table
 
   one_more_lem : 256 - k ≡ suc (256 - (k + 1))
   one_more_lem = omega arith
 
-  pub rows_end : found ≡ None → AllRows b c v k a
-  rows_end h = ended b c v k t a z (omega (arith, l)) (ap (λ (n : ℕ). rows_from n b c v z.back) one_more_lem
-      ∙ rows_from_end (256 - (k + 1)) b c v z.back (next_is ∙ row_none _ found e h))
+  pub rows_end : pair_found None ≡ first_pair (due_in b.systems m t) → AllRows b c v k a
+  unfolding pair_found
+  rows_end e = ended b c v k t a z (omega (arith, l)) (ap (λ (n : ℕ). rows_from n b c v z.back) one_more_lem
+      ∙ rows_from_end (256 - (k + 1)) b c v z.back (next_is ∙ sym e))
 
-  pub rows_turn : (x y : ℕ) → found ≡ Some x → bit y ≡ with (bit (get_or t (x / 64) 0)) (x % 64) → RowsTo b c v (k + 1) (set t (x / 64) y) (set a k x)
-  rows_turn x y h ey =
-      let s = row_some (due_in b.systems m t) found e x h in
-      let q = s.0 in
-      let d< : x / 64 < 32 = subst (λ (i : ℕ). i < 32) (sym s.3) s.5 in
+  pub rows_turn : (d w x y : ℕ) → pair_found (Some (d, w)) ≡ first_pair (due_in b.systems m t) → bit y ≡ with (bit (get_or t d 0)) w → x ≡ d * 64 + w
+      → RowsTo b c v (k + 1) (set t d y) (set a k x)
+  unfolding pair_found row_number
+  rows_turn d w x y e ey ex =
+      let q : Pair = (d, w) in
       record {
         above = z.above ++ (q ∷ []);
         back = q ∷ z.back;
-        size = length-set t (x / 64) y ∙ z.size;
-        table = λ d w. mark_one t (x / 64) (x % 64) y z.size d< ey d w
-            ∙ ap₂ (λ (i j : ℕ). (d =? i & w =? j) or marked t d w) s.3 s.4
-            ∙ ap (λ (o : Bool). (d =? q.0 & w =? q.1) or o) (z.table d w) ∙ sym (listed_more q z.back d w);
+        size = length-set t d y ∙ z.size;
+        table = λ i j. mark_one t d w y z.size (pair_low (due_in b.systems m t) q e).0 ey i j
+            ∙ ap (λ (o : Bool). (i =? d & j =? w) or o) (z.table i j) ∙ sym (listed_more q z.back i j);
         goes_on = append_assoc z.above (q ∷ []) _
-            ∙ ap (λ (r : List Pair). z.above ++ r) (sym (rows_from_row (256 - (k + 1)) b c v z.back q (next_is ∙ s.1)))
+            ∙ ap (λ (r : List Pair). z.above ++ r) (sym (rows_from_row (256 - (k + 1)) b c v z.back q (next_is ∙ sym e)))
             ∙ ap (λ (n : ℕ). z.above ++ rows_from n b c v z.back) (sym one_more_lem) ∙ z.goes_on;
         count = ap (λ (i : ℕ). i + 1) z.count ∙ sym (length-append z.above (q ∷ []));
-        array = ap₂ (λ (l : List ℕ) (i : ℕ). set l k i) z.array s.2
+        array = ap₂ (λ (l : List ℕ) (i : ℕ). set l k i) z.array ex
             ∙ filled-set 0 (map row_number z.above) (replicate 256 0) k (row_number q) (z.count ∙ sym (length-map z.above row_number))
             (omega (arith, l, length-replicate {A = ℕ} 256 0))
             ∙ ap (λ (r : List ℕ). filled r (replicate 256 0)) (sym (map-append row_number z.above (q ∷ [])));

@@ -13,18 +13,20 @@ use book_test::tested;
 use refusal::Refusal;
 
 // SUPPLIES, on any Book: a set of facilities.
+#[tactic(auto, using(query_replies::specs::RepliedLaws::untested))]
 pub fn supplies(book: &Book, c: usize) -> Result<u64, Refusal>
     ensures { Replied facilities_in (code result) (found result) (replied_to book.now.sets book.now.numbers (SUPPLIES c)) }
 {
-    tested(book)?;
+    let book = tested(book)?;
     query_replies::supplies_in(book, c)
 }
 
 // NEEDS, on any Book: a set of facilities.
+#[tactic(auto, using(query_replies::specs::RepliedLaws::untested))]
 pub fn needs(book: &Book, c: usize, v: usize) -> Result<u64, Refusal>
     ensures { Replied facilities_in (code result) (found result) (replied_to book.now.sets book.now.numbers (NEEDS c v)) }
 {
-    tested(book)?;
+    let book = tested(book)?;
     query_replies::needs_in(book, c, v)
 }
 
@@ -32,31 +34,34 @@ pub fn needs(book: &Book, c: usize, v: usize) -> Result<u64, Refusal>
 pub fn standard(book: &Book, c: usize) -> Result<usize, Refusal>
     ensures { Replied the_version (code result) (found result) (replied_to book.now.sets book.now.numbers (STANDARD c)) }
 {
-    tested(book)?;
+    let book = tested(book)?;
     query_replies::standard_in(book, c)
 }
 
 // UNDEFINED, on any Book: a set of components.
+#[tactic(auto, using(query_replies::specs::RepliedLaws::untested))]
 pub fn undefined(book: &Book) -> Result<u64, Refusal>
     ensures { Replied components_in (code result) (found result) (replied_to book.now.sets book.now.numbers UNDEFINED) }
 {
-    tested(book)?;
+    let book = tested(book)?;
     Ok(query_sets::undefined_in(book))
 }
 
 // UNUSED, on any Book: a set of components.
+#[tactic(auto, using(query_replies::specs::RepliedLaws::untested))]
 pub fn unused(book: &Book) -> Result<u64, Refusal>
     ensures { Replied components_in (code result) (found result) (replied_to book.now.sets book.now.numbers UNUSED) }
 {
-    tested(book)?;
+    let book = tested(book)?;
     Ok(query_sets::unused_in(book))
 }
 
 // WHEREUSED, on any Book: a set of components.
+#[tactic(auto, using(query_replies::specs::RepliedLaws::untested))]
 pub fn whereused(book: &Book, c: usize) -> Result<u64, Refusal>
     ensures { Replied components_in (code result) (found result) (replied_to book.now.sets book.now.numbers (WHEREUSED c)) }
 {
-    tested(book)?;
+    let book = tested(book)?;
     query_sets::whereused_in(book, c)
 }
 
@@ -65,6 +70,6 @@ pub fn choice(book: &Book, wanted: u64, out: &mut [u16]) -> Result<usize, Refusa
     ensures { Listed out.old (code result) (found result) out.new
         (fitted (length out.old) (replied_to book.now.sets book.now.numbers (CHOICE (numbers_in wanted)))) }
 {
-    tested(book)?;
+    let book = tested(book)?;
     query_choice::choice_in(book, wanted, out)
 }

@@ -1,9 +1,8 @@
 -- CHOICE: the pairs chosen as 32 sets of versions, as rows, and as the reply.
-use Rattle.std.specs.Prelude.{Bool, false, not, true, List, map, ◌≡◌, refl, ◌%◌, ◌+◌, ◌/◌, ◌<◌, ◌^◌, ◌≤◌, ℕ, length, set}
-use Rattle.std.proofs.Common.{inl, inr, ◌∙◌, not-suc-le-zero, arith, length-set, get_or-set_other, get_or-set_same}
+use Rattle.std.specs.Prelude.{Bool, false, true, List, map, ◌≡◌, refl, ◌%◌, ◌/◌, ◌<◌, ◌^◌, ◌≤◌, ℕ, length}
+use Rattle.std.proofs.Common.{inl, inr, ◌∙◌, arith}
 use Rattle.std.proofs.Math.Path.{ap, fun_ext, sym}
 use Rattle.std.proofs.lemmas.List.{length-map}
-use Rattle.std.proofs.lemmas.Bool.{not-true}
 use Rattle.book.specs.Plain.{plain_of, specs_of}
 use Rattle.model_laws.specs.FirstNoLaws.{yes_at}
 use Rattle.model.specs.Book.{Book, Pair, Specs, facilities, has_version, provides}
@@ -20,7 +19,7 @@ use Rattle.book_rules.specs.Test.{passes}
 use Rattle.seqs.specs.Filled.{filled}
 use Rattle.sets.specs.SetLaws.{bit_zero}
 use Rattle.sets.specs.Sets.{Set, bit, subset}
-use Rattle.sets.specs.TestLaws.{and-false, and_swap, and-true, bool?, if-false, if-true, same?}
+use Rattle.sets.specs.TestLaws.{and-false, and_swap, and-true, bool?, if-false, if-true}
 use Rattle.sets.specs.Tests.{◌&◌, count, if?◌then◌else◌}
 use Rattle.model_laws.specs.RisingLaws.{rising_below, rising_cong, rising-length, rising-set}
 
@@ -36,27 +35,9 @@ module _ (S : Specs) (w c p : ℕ) {t : Bool} (ep : bit p ≡ provides S c) (et 
   unfolding chosen_at
   chosen_no e = fun_ext (λ v. bit_zero v ∙ sym (and_swap _ _ ∙ and-false _ _ (tested ∙ e)))
 
--- ---- a set of versions for each component
-
-module _ (S : Specs) (w : Set) where
-  pub chosen_start : (t : List ℕ) → length t ≡ 32 → Chosen S w 0 t
-  chosen_start t l = record { size = l; row = λ d h. absurd (not-suc-le-zero h) }
-
-  pub chosen_turn : (c : ℕ) (t : List ℕ) (x : ℕ) → c < 32 → Chosen S w c t → bit x ≡ chosen_at S w c → Chosen S w (c + 1) (set t c x)
-  chosen_turn c t x c< k ex = record {
-    size = length-set t c x ∙ k.size;
-    row = λ d h. elim (same? d c) [
-      | inl e ↦ rw e (ap bit (get_or-set_same t c x 0 (omega (arith, k.size))) ∙ ex)
-      | inr ne ↦ ap bit (get_or-set_other t c d x 0 ne) ∙ k.row d (omega arith)
-    ];
-  }
-
-  pub chosen_end : (c : ℕ) (t : List ℕ) → 32 ≤ c → Chosen S w c t → Chosen S w 32 t
-  chosen_end c t h k = record { size = k.size; row = λ d l. k.row d (omega arith) }
-
 -- ---- as rows
 
-rows_chosen : (S : Specs) (w : Set) (t : List ℕ) → Chosen S w 32 t → rising 2048 (row_in t) ≡ map row_of (rising_pairs (chosen_at S w))
+rows_chosen : (S : Specs) (w : Set) (t : List ℕ) → Chosen S w t → rising 2048 (row_in t) ≡ map row_of (rising_pairs (chosen_at S w))
 rows_chosen S w t k = rising_cong 2048 (row_in t) (flat (chosen_at S w)) at ∙ sym (rows_flat (chosen_at S w))
   where
     at : (d : ℕ) → d < 2048 → row_in t d ≡ flat (chosen_at S w) d
@@ -77,7 +58,8 @@ module _ (s n old : List ℕ) (w : ℕ) where
     | inr f ↦ rw z (list_refused old a (to_25 s n _ f ∙ ap refused (sym (e ∙ if-false _ _ _ f))))
   ]
 
-  module _ (good : passes s n ≡ true) (w< : w < 2 ^ 64) (t : List ℕ) (k : Chosen (specs_of s n) (bit w) 32 t) (m : ℕ) (em : m ≡ count 2048 (row_in t)) where
+  module _ (good : passes s n ≡ true) (w< : w < 2 ^ 64) (t : List ℕ) (k : Chosen (specs_of s n) (bit w) t)
+      (m : ℕ) (em : m ≡ count 2048 (row_in t)) where
     pairs : List Pair
     pairs = choice (plain_of s n) (numbers_in w)
 

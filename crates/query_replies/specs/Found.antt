@@ -29,10 +29,10 @@ uses_at Y c s = ~ (s =? c) & reaches Y s c
 unfoldable pub chosen_at : Specs → Set → ℕ → Set
 chosen_at S w c v = has_version S c v & subset facilities w (provides S c)
 
--- a set of versions for each component, of which the first c are found
-pub record Chosen (S : Specs) (w : Set) (c : ℕ) (t : List ℕ) : Type 0 where
+-- the set of versions that is chosen of each component
+pub record Chosen (S : Specs) (w : Set) (t : List ℕ) : Type 0 where
   pub size : length t ≡ 32
-  pub row : (d : ℕ) → d < c → bit (get_or t d 0) ≡ chosen_at S w d
+  pub row : (d : ℕ) → d < 32 → bit (get_or t d 0) ≡ chosen_at S w d
 
 -- a test of pairs as a test of rows
 unfoldable pub flat : (ℕ → ℕ → Bool) → ℕ → Bool

@@ -11,7 +11,7 @@ use Rattle.model.specs.Queries.{Query, Reply, asked, found, refused, reply}
 use Rattle.model.specs.Questions.{first_no}
 use Rattle.query_replies.specs.Replied.{Replied, of_component, of_pair, replied_to}
 use Rattle.book_rules.specs.Test.{passes}
-use Rattle.sets.specs.TestLaws.{<?_in, <?_no, <?_out, =?-not, =?-same, and-false, and_swap, and-true, bool?, if-false, if-true}
+use Rattle.sets.specs.TestLaws.{<?_in, =?-not, =?-same, and-false, and_swap, and-true, bool?, if-false, if-true}
 use Rattle.sets.specs.Tests.{◌&◌, ◌<?◌, ◌=?◌, if?◌then◌else◌}
 
 -- ---- the reply from the number of the first no
@@ -82,9 +82,7 @@ module _ (b : Book) (c : ℕ) where
   unfolding of_component
   component_0 {r} h e t = sym (yes_at 1 _ _ (<?_in _ _ h) ∙ yes_at 4 _ _ (sym e ∙ not-false r t) ∙ nothing_asked)
 
-  -- a component of which 1 is not the answer
-  pub component_low : (a : ℕ) → a ≡ first_no (of_component b c) → a ≡ 0 → c < 32
-  component_low a e z = elim (bool? (c <? 32)) [ inl y ↦ <?_out _ _ y | inr w ↦ absurd (omega (arith, e, z, component_1 (<?_no _ _ w))) ]
+pub ruleset component_questions = (component_1, component_4, component_0)
 
 -- ---- the questions 1, 4 and 10
 
@@ -129,10 +127,4 @@ module _ (b : Book) (c v : ℕ) where
         pub pair_0 : not r ≡ false → 0 ≡ first_no (of_pair b c v)
         pair_0 t = sym (last_asked_lem (sym ea ∙ z) ∙ yes_at 10 _ _ (sym er ∙ not-false r t) ∙ nothing_asked)
 
-  -- a component of which 1 is not the answer
-  pub pair_low : (a : ℕ) → a ≡ first_no (of_pair b c v) → a ≡ 0 → c < 32
-  unfolding of_pair
-  pair_low a e z = elim (bool? (c <? 32)) [
-    | inl y ↦ <?_out _ _ y
-    | inr w ↦ absurd (omega (arith, e, z, no_at 1 _ ((4, specified b.specs c) ∷ (10, has_version b.specs c v) ∷ []) (and-false _ (v <? versions) w)))
-  ]
+pub ruleset pair_questions = (pair_1, pair_first, pair_10, pair_0)

@@ -2,20 +2,22 @@
 // specs/Listed.antt.
 #![tactic(auto)]
 
-ghost use Rattle.std.specs.Prelude.{◌≡◌, true};
+ghost use Rattle.std.specs.Prelude.{◌≡◌};
 ghost use Rattle.book.specs.Plain.{plain};
-ghost use Rattle.book_rules.specs.Test as test;
 ghost use Rattle.model.specs.Questions.{first_no};
 ghost use Rattle.model.specs.Queries.{SUPPLIES, NEEDS, STANDARD, the_version};
 ghost use Rattle.query_replies.specs.Replied.{Replied, replied_to, of_component, of_pair, facilities_in};
 ghost use Rattle.refusal.specs.Numbers.{code, found};
 
 use book::Book;
+use book_needs::Needs;
+use book_test::Passing;
 use refusal::Refusal;
 
 // ---- questions
 
 // The questions 1 and 4.
+#[tactic(auto, using(crate::specs::RepliedLaws::component_questions))]
 pub fn asked_of_component(book: &Book, c: usize) -> Result<(), Refusal>
     ensures { code result ≡ first_no (of_component (plain book.now) c) }
 {
@@ -29,7 +31,8 @@ pub fn asked_of_component(book: &Book, c: usize) -> Result<(), Refusal>
 }
 
 // The questions 1, 4 and 10.
-fn asked_of_pair(book: &Book, c: usize, v: usize) -> Result<(), Refusal>
+#[tactic(auto, using(crate::specs::RepliedLaws::pair_questions))]
+pub fn asked_of_pair(book: &Book, c: usize, v: usize) -> Result<(), Refusal>
     ensures { code result ≡ first_no (of_pair (plain book.now) c v) }
 {
     if 64 <= v {
@@ -45,30 +48,32 @@ fn asked_of_pair(book: &Book, c: usize, v: usize) -> Result<(), Refusal>
 // ---- queries on a Book that passes the test for 25
 
 // SUPPLIES: a set of facilities.
-pub fn supplies_in(book: &Book, c: usize) -> Result<u64, Refusal>
-    requires { test.passes book.now.sets book.now.numbers ≡ true }
-    ensures { Replied facilities_in (code result) (found result) (replied_to book.now.sets book.now.numbers (SUPPLIES c)) }
+#[tactic(auto, using(crate::specs::QueryLaws::supplies_no, crate::specs::QueryLaws::supplies_yes))]
+pub fn supplies_in(passing: Passing<'_>, c: usize) -> Result<u64, Refusal>
+    ensures { Replied facilities_in (code result) (found result)
+        (replied_to passing.entry.book.now.sets passing.entry.book.now.numbers (SUPPLIES c)) }
 {
-    asked_of_component(book, c)?;
-    Ok(book.provides(c))
+    asked_of_component(passing.book, c)?;
+    Ok(passing.book.provides(c))
 }
 
 // NEEDS: a set of facilities.
-pub fn needs_in(book: &Book, c: usize, v: usize) -> Result<u64, Refusal>
-    requires { test.passes book.now.sets book.now.numbers ≡ true }
-    ensures { Replied facilities_in (code result) (found result) (replied_to book.now.sets book.now.numbers (NEEDS c v)) }
+#[tactic(auto, using(crate::specs::QueryLaws::needs_no, crate::specs::QueryLaws::needs_yes))]
+pub fn needs_in(passing: Passing<'_>, c: usize, v: usize) -> Result<u64, Refusal>
+    ensures { Replied facilities_in (code result) (found result)
+        (replied_to passing.entry.book.now.sets passing.entry.book.now.numbers (NEEDS c v)) }
 {
-    asked_of_pair(book, c, v)?;
-    let mut table: [u64; 2080] = [0; 2080];
-    let set = book_needs::needs_of(book, c, v, &mut table);
-    Ok(set)
+    asked_of_pair(passing.book, c, v)?;
+    let mut needs = Needs::new(passing.book);
+    Ok(needs.of(c, v))
 }
 
 // STANDARD: a version.
-pub fn standard_in(book: &Book, c: usize) -> Result<usize, Refusal>
-    requires { test.passes book.now.sets book.now.numbers ≡ true }
-    ensures { Replied the_version (code result) (found result) (replied_to book.now.sets book.now.numbers (STANDARD c)) }
+#[tactic(auto, using(crate::specs::QueryLaws::standard_no, crate::specs::QueryLaws::standard_yes))]
+pub fn standard_in(passing: Passing<'_>, c: usize) -> Result<usize, Refusal>
+    ensures { Replied the_version (code result) (found result)
+        (replied_to passing.entry.book.now.sets passing.entry.book.now.numbers (STANDARD c)) }
 {
-    asked_of_component(book, c)?;
-    Ok(book.standard(c))
+    asked_of_component(passing.book, c)?;
+    Ok(passing.book.standard(c))
 }

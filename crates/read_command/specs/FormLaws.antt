@@ -1,17 +1,18 @@
 -- What a first word begins is what the grammar says: a law for each way out of the code that reads it.
-use Rattle.std.specs.Prelude.{Bool, false, true, List, [], ◌∷◌, ◌≡◌, refl, ◌+◌, ◌<◌, ◌≤◌, suc, zero, ℕ, drop, get_or}
+use Rattle.std.specs.Prelude.{false, true, List, [], ◌∷◌, ◌≡◌, refl, ◌+◌, ◌<◌, ◌≤◌, suc, zero, ℕ, drop, get_or, map, ◌⊎◌}
 use Rattle.std.proofs.Math.Option.{Option, none, some}
-use Rattle.std.proofs.Common.{inl, inr, ◌∙◌, subst, arith}
+use Rattle.std.proofs.Common.{inl, inr, ◌∙◌, arith}
 use Rattle.std.proofs.Math.Path.{ap, sym}
 use Rattle.std.proofs.Math.Nat.{le_refl}
-use Rattle.std.proofs.Math.ListN.{get_or-eq_default, length}
+use Rattle.std.proofs.Math.ListN.{length}
 use Rattle.model.specs.Lists.{every}
+use Rattle.model.specs.Maps as there
 use Rattle.model.specs.Maps.{is_some}
 use Rattle.sets.specs.Answered.{answered}
 use Rattle.std.specs.Prelude.{Option as Found}
-use Rattle.std.specs.Prelude as found
-use Rattle.read_tokens.specs.Readers.{Answers}
-use Rattle.sets.specs.TestLaws.{=?-in, =?-out, and_l, and_r, bool?, clash, fails, if-false}
+use Rattle.std.specs.Prelude.{None, Some}
+use Rattle.read_tokens.specs.BothLaws.{none_some}
+use Rattle.sets.specs.TestLaws.{and_l, and_r, clash, fails, if-false}
 use Rattle.sets.specs.Tests.{◌&◌, ◌=?◌, ◌or◌, if?◌then◌else◌}
 use Rattle.text.specs.Bytes.{Text, among, bytes, keywords, same}
 use Rattle.text.specs.Language.{Read, Reader, Said, by_word, command, command_of, grammar, over, read_as, wrong}
@@ -22,15 +23,14 @@ use Rattle.text_laws.specs.TextLaws.{same_out}
 use Rattle.words.specs.KeywordLaws.{keyword_length, keywords_counted}
 use Rattle.words.specs.Keywords.{keyword_count}
 use Rattle.words.specs.Reading.{Skips, next_of, word_at}
-use Rattle.words.specs.TokenLaws.{next_end, next_open}
+use Rattle.words.specs.TokenLaws.{next_end, next_open, short_in}
 use Rattle.words.specs.WordLaws.{neither, word_ends, word_neither, word_next}
-use Rattle.read_command.specs.Forms.{Begins, asked_of, asked_of_book, asked_of_version, begun, begun_if, command_reader, form_of, forms, named_reader}
+use Rattle.read_command.specs.Forms.{Begins, asked_of, asked_of_book, asked_of_version, begun, begun_if}
+use Rattle.read_command.specs.Forms.{command_reader, form_of, in_order, named_reader}
 use Rattle.read_command.specs.Forms.{query_reader, removed, version_removed, word_form}
-use Rattle.read_command.specs.declared.Command.{Command}
+use Rattle.read_tokens.specs.declared.Keyword.{Keyword}
 use Rattle.read_command.specs.declared.Form.{Form}
 use Rattle.read_command.specs.declared.Form.TheVariants.{Over}
-use Rattle.read_command.specs.declared.Named.{Named}
-use Rattle.read_command.specs.declared.Query.{Query}
 
 -- ---- the grammar and the forms
 
@@ -45,7 +45,7 @@ data Begin : List Text → List (Found Form) → Type 0 where
       → Begin (w ∷ ws) (f ∷ fs)
 
 begin_at : (ws : List Text) (fs : List (Found Form)) → Begin ws fs → (k : ℕ) → k < length ws → (t : Text)
-    → worded (name_at ws k) t ≡ begun_if (get_or fs k found.None) t
+    → worded (name_at ws k) t ≡ begun_if (get_or fs k None) t
 unfolding name_at
 begin_at [] [] none_left k l t = absurd (omega arith)
 begin_at [] (f ∷ fs) x k l t = elim x [ ]
@@ -53,9 +53,9 @@ begin_at (w ∷ ws) [] x k l t = elim x [ ]
 begin_at (w ∷ ws) (f ∷ fs) (and b r) zero l t = b t
 begin_at (w ∷ ws) (f ∷ fs) (and b r) (suc k) l t = begin_at ws fs r k (omega arith) t
 
-each_begins : Begin keywords forms
-unfolding keywords forms bytes grammar worded by_word same begun begun_if command_reader named_reader query_reader removed version_removed asked_of
-    asked_of_version asked_of_book read_as if?◌then◌else◌ ◌&◌ ◌=?◌
+each_begins : Begin keywords (map form_of in_order)
+unfolding keywords in_order form_of bytes grammar worded by_word same begun begun_if command_reader named_reader query_reader removed
+    version_removed asked_of asked_of_version asked_of_book read_as if?◌then◌else◌ ◌&◌ ◌=?◌
 each_begins =
     and (λ t. refl) (and (λ t. refl) (and (λ t. refl) (and (λ t. refl) (and (λ t. refl) (and (λ t. refl) (and (λ t. refl)
     (and (λ t. refl) (and (λ t. refl) (and (λ t. refl) (and (λ t. refl) (and (λ t. refl) (and (λ t. refl) (and (λ t. refl)
@@ -88,56 +88,57 @@ no_keyword w e = fails _ (λ a. clash (sym (ap is_some e) ∙ place_there keywor
 
 -- the whole: a word begins the form at its place among the keywords
 word_begins : (w t : Text) → worded w t ≡ begun_if (word_form (place keywords w)) t
-unfolding word_form form_of
+unfolding word_form
 word_begins w t = by (place keywords w) refl
   where
     by : (o : Option ℕ) → place keywords w ≡ o → worded w t ≡ begun_if (word_form o) t
     by none e = (let n = no_keyword w e in
         (unfold worded begun_if in if-false _ _ _ (other_word w (bytes "quit") n quit_known) ∙ none-known grammar w t first_words_known n))
     by (some k) e = (let s = place_name keywords w k e in
-        ap (λ (x : Text). worded x t) (sym s.0) ∙ begin_at keywords forms each_begins k s.1 t)
-
--- ---- the ways out of form_of
-
-unless : {P : Type 0} (n k : ℕ) → (k ≡ n → P) → ((k ≡ n → ⊥) → P) → P
-unless n k y f = elim (bool? (k =? n)) [ inl e ↦ y (=?-out k n e) | inr e ↦ f (λ q. clash (=?-in k n q) e) ]
-
--- the keywords that begin none
-pub no_form : (k : ℕ)
-    → ((k ≡ 3 → ⊥) → (k ≡ 8 → ⊥) → (k ≡ 12 → ⊥) → (k ≡ 13 → ⊥) → (k ≡ 14 → ⊥) → (k ≡ 15 → ⊥) → (k ≡ 17 → ⊥) → (k ≡ 19 → ⊥)
-    → keyword_count ≤ k)
-    → found.None ≡ form_of k
-unfolding form_of forms
-no_form k h =
-    unless 3 k none_at (λ a. unless 8 k none_at (λ b. unless 12 k none_at (λ c. unless 13 k none_at (λ d. unless 14 k none_at (λ e.
-    unless 15 k none_at (λ f. unless 17 k none_at (λ g. unless 19 k none_at (λ i.
-    sym (get_or-eq_default forms found.None {n = k} (h a b c d e f g i))))))))))
-  where
-    none_at : {n : ℕ} → k ≡ n → form_of n ≡ form_of k
-    none_at e = ap form_of (sym e)
+        ap (λ (x : Text). worded x t) (sym s.0) ∙ begin_at keywords (map form_of in_order) each_begins k s.1 t)
 
 -- ---- the ways out of word_form
 
-pub form_long : (w : Text) → 32 < length w → found.None ≡ word_form (place keywords w)
+form_at : (ks : List Keyword) (j : ℕ) (d : Keyword) → j < length ks → form_of (get_or ks j d) ≡ get_or (map form_of ks) j None
+form_at [] j d h = absurd (omega arith)
+form_at (k ∷ ks) zero d h = refl
+form_at (k ∷ ks) (suc j) d h = form_at ks j d (omega arith)
+
+pub form_empty : (w : Text) → length w ≡ 0 → None ≡ word_form (place keywords w)
+unfolding word_form keywords place bytes same ◌&◌ ◌=?◌ there.option_map if?◌then◌else◌
+form_empty [] e = refl
+form_empty (b ∷ bs) e = absurd (omega arith)
+
+pub form_long : (w : Text) → 32 < length w → None ≡ word_form (place keywords w)
 unfolding word_form
 form_long w l = by (place keywords w) refl
   where
-    by : (o : Option ℕ) → place keywords w ≡ o → found.None ≡ word_form o
+    by : (o : Option ℕ) → place keywords w ≡ o → None ≡ word_form o
     by none q = refl
     by (some j) q =
         let s = place_name keywords w j q in let m = keywords_counted in let o = ap length s.0 in
         let i = keyword_length j (omega arith) in absurd (omega arith)
 
 module _ (w : Text) (f : Found ℕ) (q : answered f ≡ place keywords w) where
-  pub form_none : f ≡ found.None → word_form (place keywords w) ≡ found.None
+  pub form_none : f ≡ None → word_form (place keywords w) ≡ None
   unfolding word_form answered
   form_none h = ap word_form (sym q ∙ ap answered h)
 
-  pub form_found : (j : ℕ) (r : Found Form) → f ≡ found.Some j → r ≡ form_of j → r ≡ word_form (place keywords w)
-  unfolding word_form answered
-  form_found j r h d = d ∙ sym (ap word_form (sym q ∙ ap answered h))
+  module _ (j : ℕ) (h : f ≡ Some j) where
+    pub keyword_below : j < keyword_count
+    unfolding answered
+    keyword_below = let s = place_name keywords w j (sym q ∙ ap answered h) in let m = keywords_counted in omega arith
+
+    pub form_found : (d : Keyword) (r : Found Form) → r ≡ form_of (get_or in_order j d) → r ≡ word_form (place keywords w)
+    unfolding word_form answered
+    form_found d r e = e ∙ form_at in_order j d (unfold in_order in keyword_below) ∙ sym (ap word_form (sym q ∙ ap answered h))
 
 -- ---- the ways out of read_command
+
+-- a word has no byte, or some
+none_or_some : (w : Text) → (length w ≡ 0) ⊎ (length w ≡ 0 → ⊥)
+none_or_some [] = inl refl
+none_or_some (b ∷ bs) = inr (λ e. absurd (omega arith))
 
 -- what is neither a word nor the end of the text
 not_of_the_language_lem : (n : Next) → neither n ≡ true → command_of n ≡ wrong
@@ -149,48 +150,44 @@ not_of_the_language_lem end e = clash e refl
 not_of_the_language_lem bad e = refl
 
 module _ (t : Text) (at : ℕ) (s : Found ℕ) (g : Skips t at s) where
-  pub begins_open : s ≡ found.None → command (drop at t) ≡ wrong
+  pub begins_open : s ≡ None → command (drop at t) ≡ wrong
   unfolding command command_of next_of
   begins_open e = ap command_of (sym (next_open t at s g e).is)
 
-  pub begins_end : (a : ℕ) → s ≡ found.Some a → length t ≤ a → at ≤ length t → Begins t at Over at
+  pub begins_end : (a : ℕ) → s ≡ Some a → length t ≤ a → at ≤ length t → Begins t at Over at
   unfolding command command_of next_of begun
   begins_end a e h l = record { is = ap command_of (sym (next_end t at s a g e h).is); from = le_refl _; inside = l }
 
-  module _ (a : ℕ) (e : s ≡ found.Some a) (w : Text) (p : w ≡ word_at (drop a t)) where
-    pub begins_none : a < length t → length w ≡ 0 → command (drop at t) ≡ wrong
+  module _ (a : ℕ) (e : s ≡ Some a) (w : Text) (p : w ≡ word_at (drop a t)) where
+    begins_none : a < length t → length w ≡ 0 → command (drop at t) ≡ wrong
     unfolding command
     begins_none h z = not_of_the_language_lem _ (word_neither t at s g a e w p z h)
 
-    module _ (n : length w ≡ 0 → ⊥) where
-      begins_if : command (drop at t) ≡ begun_if (word_form (place keywords w)) (drop (a + length w) t)
-      unfolding command command_of worded
-      begins_if = ap command_of (word_next t at s g a e w p n) ∙ word_begins w (drop (a + length w) t)
+    begins_if : (length w ≡ 0 → ⊥) → command (drop at t) ≡ begun_if (word_form (place keywords w)) (drop (a + length w) t)
+    unfolding command command_of worded
+    begins_if n = ap command_of (word_next t at s g a e w p n) ∙ word_begins w (drop (a + length w) t)
 
-      pub begins_wrong : (o : Found Form) → o ≡ word_form (place keywords w) → o ≡ found.None → command (drop at t) ≡ wrong
+    module _ (o : Found Form) (d : o ≡ word_form (place keywords w)) where
+      pub begins_wrong : a < length t → o ≡ None → command (drop at t) ≡ wrong
       unfolding begun_if
-      begins_wrong o d h = begins_if ∙ ap (λ x. begun_if x (drop (a + length w) t)) (sym d ∙ h)
+      begins_wrong h q =
+          elim (none_or_some w) [
+            | inl z ↦ begins_none h z
+            | inr n ↦ begins_if n ∙ ap (λ x. begun_if x (drop (a + length w) t)) (sym d ∙ q)
+          ]
 
-      pub begins_word : (f : Form) (o : Found Form) → o ≡ word_form (place keywords w) → o ≡ found.Some f → Begins t at f (a + length w)
+      pub begins_word : (f : Form) → o ≡ Some f → Begins t at f (a + length w)
       unfolding begun_if
-      begins_word f o d h =
+      begins_word f q =
           let i = word_ends t at s g a e w p in
+          let n : length w ≡ 0 → ⊥ = λ z. none_some (form_empty w z ∙ sym d ∙ q) in
           record {
-            is = begins_if ∙ ap (λ x. begun_if x (drop (a + length w) t)) (sym d ∙ h);
+            is = begins_if n ∙ ap (λ x. begun_if x (drop (a + length w) t)) (sym d ∙ q);
             from = omega arith;
             inside = i.1;
           }
 
--- ---- the reader of a command, by what the code has matched
+-- the ways out of word_form and of read_command
+pub ruleset no_form = (form_empty, form_long, form_none, keyword_below, short_in)
 
-pub as_command : (x y : Command) → x ≡ y → {R : Said → Type 0} {t : Text} {at e : ℕ} {there : Bool}
-    → Answers (command_reader y) R t at there e → Answers (command_reader x) R t at there e
-as_command x y q {R} {t} {at} {e} {there} a = subst (λ (z : Command). Answers (command_reader z) R t at there e) (sym q) a
-
-pub as_named : (x y : Named) → x ≡ y → {R : Said → Type 0} {t : Text} {at e : ℕ} {there : Bool}
-    → Answers (named_reader y) R t at there e → Answers (named_reader x) R t at there e
-as_named x y q {R} {t} {at} {e} {there} a = subst (λ (z : Named). Answers (named_reader z) R t at there e) (sym q) a
-
-pub as_query : (x y : Query) → x ≡ y → {R : Said → Type 0} {t : Text} {at e : ℕ} {there : Bool}
-    → Answers (query_reader y) R t at there e → Answers (query_reader x) R t at there e
-as_query x y q {R} {t} {at} {e} {there} a = subst (λ (z : Query). Answers (query_reader z) R t at there e) (sym q) a
+pub ruleset begins = (begins_open, begins_end, begins_wrong, begins_word, word_ends)

@@ -1,5 +1,5 @@
 -- A command by its first word (document 01 and Fig. 2): what a keyword begins, and what stands behind it.
-use Rattle.std.specs.Prelude.{List, None, Option as Found, Some, [], ◌∷◌, ◌≡◌, ◌≤◌, ℕ, drop, get_or, length}
+use Rattle.std.specs.Prelude.{List, None, Option as Found, Some, [], ◌∷◌, ◌≡◌, ◌≤◌, ℕ, drop, get_or, length, map}
 use Rattle.std.proofs.Math.Option.{Option, none, some}
 use Rattle.text.specs.Bytes.{Text}
 use Rattle.text.specs.Language.{DELMOD, DELMODVAR, DELSPEC, DELSYS, DELSYSVAR, NEEDS, Name, OUT, PARTS, Read, Reader, STANDARD, SUPPLIES, Said}
@@ -23,6 +23,8 @@ use Rattle.read_command.specs.declared.Query.{Query}
 use Rattle.read_command.specs.declared.Query.TheVariants.{ByName, Choice, Whole}
 use Rattle.read_command.specs.declared.Version.{Version}
 use Rattle.read_command.specs.declared.Version.TheVariants as version
+use Rattle.read_tokens.specs.declared.Keyword.{Keyword}
+use Rattle.read_tokens.specs.declared.Keyword.TheVariants as keyword
 use Rattle.read_tokens.specs.declared.reader.Reader.{Reader as Place}
 
 -- ---- what a keyword begins
@@ -45,21 +47,49 @@ removes k = Some (Changes (Remove k))
 abbrev removes_version : Version → Found Form
 removes_version k = Some (Changes (RemoveVersion k))
 
--- in the order of `keywords`
-unfoldable pub forms : List (Found Form)
-forms =
-    of_one_name Supplies ∷ of_two_names Needs ∷ Some (Asks Choice) ∷ None ∷ of_one_name Standard ∷ of_none book.Undefined ∷ of_none book.Unused ∷
-    of_one_name WhereUsed ∷ None ∷ of_none book.Text ∷ Some Over ∷ adds AddSpec ∷ None ∷ None ∷ None ∷ None ∷ adds AddMod ∷ None ∷ adds AddSys ∷
-    None ∷ removes component.Spec ∷ removes component.Module ∷ removes component.System ∷ adds AddModvar ∷ adds AddSysvar ∷
-    removes_version version.Module ∷ removes_version version.System ∷ of_two_names Parts ∷ []
+-- by the keyword; some begin none
+unfoldable pub form_of : Keyword → Found Form
+form_of keyword.Supplies = of_one_name Supplies
+form_of keyword.Needs = of_two_names Needs
+form_of keyword.Choice = Some (Asks Choice)
+form_of keyword.End = None
+form_of keyword.Standard = of_one_name Standard
+form_of keyword.Undefined = of_none book.Undefined
+form_of keyword.Unused = of_none book.Unused
+form_of keyword.WhereUsed = of_one_name WhereUsed
+form_of keyword.In = None
+form_of keyword.Out = of_none book.Text
+form_of keyword.Quit = Some Over
+form_of keyword.Spec = adds AddSpec
+form_of keyword.Provides = None
+form_of keyword.Std = None
+form_of keyword.Requires = None
+form_of keyword.AllOf = None
+form_of keyword.Mod = adds AddMod
+form_of keyword.Impl = None
+form_of keyword.Sys = adds AddSys
+form_of keyword.Use = None
+form_of keyword.DelSpec = removes component.Spec
+form_of keyword.DelMod = removes component.Module
+form_of keyword.DelSys = removes component.System
+form_of keyword.Modvar = adds AddModvar
+form_of keyword.Sysvar = adds AddSysvar
+form_of keyword.DelModvar = removes_version version.Module
+form_of keyword.DelSysvar = removes_version version.System
+form_of keyword.Parts = of_two_names Parts
 
-unfoldable pub form_of : ℕ → Found Form
-form_of k = get_or forms k None
+-- the keywords in the order of `keywords`
+unfoldable pub in_order : List Keyword
+in_order =
+    keyword.Supplies ∷ keyword.Needs ∷ keyword.Choice ∷ keyword.End ∷ keyword.Standard ∷ keyword.Undefined ∷ keyword.Unused ∷ keyword.WhereUsed
+    ∷ keyword.In ∷ keyword.Out ∷ keyword.Quit ∷ keyword.Spec ∷ keyword.Provides ∷ keyword.Std ∷ keyword.Requires ∷ keyword.AllOf ∷ keyword.Mod
+    ∷ keyword.Impl ∷ keyword.Sys ∷ keyword.Use ∷ keyword.DelSpec ∷ keyword.DelMod ∷ keyword.DelSys ∷ keyword.Modvar ∷ keyword.Sysvar
+    ∷ keyword.DelModvar ∷ keyword.DelSysvar ∷ keyword.Parts ∷ []
 
 -- of a word, by its place among the keywords
 unfoldable pub word_form : Option ℕ → Found Form
 word_form none = None
-word_form (some k) = form_of k
+word_form (some k) = get_or (map form_of in_order) k None
 
 -- ---- the command that is read, by its names
 

@@ -1,182 +1,147 @@
-// The commands `mod` and `modvar` read from behind their first word, and what they ask for collected on the way.
+// The commands `mod` and `modvar` read from behind their first word, and what they ask for collected on the way. An answer in an answer:
+// the outer says whether it was read, the inner whether there was a place for each name.
 #![tactic(auto)]
 
-ghost use Rattle.std.specs.Prelude.{◌≡◌, List, ℕ};
-ghost use Rattle.names.specs.Stored.{table_of, tables_of};
-ghost use Rattle.read_tokens.specs.Requested.{ModAsked, ModMade, ModvarAsked, ModvarMade, PairEnters, PairMade};
-ghost use Rattle.read_tokens.specs.ModSteps.{ModStep, ModWith, mod_start, mod_state};
-ghost use Rattle.model.specs.Book.{components, facilities, implementations, versions};
-ghost use Rattle.read_tokens.specs.Steps.{Each};
-ghost use Rattle.read_tokens.specs.Entering.{Kept};
-ghost use Rattle.text.specs.Language.{add_mod, add_modvar, list_of, mod_version, pair, semicolon};
+ghost use Rattle.std.specs.Prelude.{◌≡◌, option_map};
+ghost use Rattle.names.specs.Stored.{Rows, table_of};
+ghost use Rattle.command_lists.specs.Views.{numbers_view};
+ghost use Rattle.model.specs.Book.{components, versions};
+ghost use Rattle.text.specs.Language.{Name, add_mod, add_modvar, mod_version, pair};
+ghost use Rattle.text_laws.specs.Takes.{mod_version_takes};
+ghost use Rattle.read_tokens.specs.Requested.{ModAsked, ModvarAsked, PairEnters};
+ghost use Rattle.read_tokens.specs.Entering.{four};
 ghost use Rattle.read_tokens.specs.Ahead.{Gives};
+ghost use Rattle.read_mod.specs.ModSteps.{ModStep, add_number, mod_made, mod_state, modvar_made, pair_made};
 
+use command_lists::{Gathered, Numbers};
+use names::Filled;
 use read_tokens::{
-    Facilities, Keyword, ModRequest, ModVersions, ModvarRequest, PairTaken, Reader, Taken,
+    Entries, Keyword, ModRequest, ModvarRequest, Pair, PairTables, Reader, take_list,
 };
 
 // The version v with its implementation i.
-fn with_mod_version(g: ModVersions, v: Taken, i: Taken) -> ModVersions
-    ensures { ModWith g v.number v.room i.number i.room result }
+#[tactic(auto, unfolding(crate::specs::ModSteps::add_number, read_tokens::specs::Entering::both))]
+fn with_mod_version(g: Option<Numbers>, v: Option<usize>, i: Option<usize>) -> Option<Numbers>
+    ensures { option_map numbers_view result ≡ add_number (option_map numbers_view g) v i }
 {
-    ModVersions {
-        numbers: command_lists::with_number(g.numbers, v.number, i.number),
-        vers: g.vers & v.room,
-        impls: g.impls & i.room,
-    }
+    Some(command_lists::with_number(g?, v?, i?))
 }
 
-// vn "impl" imp
-fn take_mod_version(
-    vers: &mut [u8],
-    impls: &mut [u8],
-    reader: &mut Reader<'_>,
-    g: ModVersions,
-) -> Option<ModVersions>
-    requires kept { Kept versions vers.old }
-    requires kept_2 { Kept implementations impls.old }
-    ensures kept_3 { Kept versions vers.new }
-    ensures kept_4 { Kept implementations impls.new }
-    ensures answers { Gives mod_version
-        (λ r. ModStep (mod_state vers.old impls.old g) (mod_state vers.new impls.new r))
-        reader.old reader.new result }
-{
-    let v = read_names::take_name(vers, 64, reader)?;
-    reader.key(Keyword::Impl)?;
-    let i = read_names::take_imp(impls, 256, reader)?;
-    Some(with_mod_version(g, v, i))
+// Versions with their implementations, if there was a place for each name.
+#[derive(Clone, Copy)]
+struct ModVersions(Option<Numbers>);
+
+impl Entries for ModVersions {
+    type Table = Filled<64>;
+
+    type Other = Filled<256>;
+
+    ghost Said = { Name × Name };
+
+    ghost entry = { mod_version };
+
+    ghost step = { λ s s' x. ModStep (mod_state s.0.table.rows s.1.table.rows s.2.0) (mod_state s'.0.table.rows s'.1.table.rows s'.2.0) x };
+
+    // vn "impl" imp; the same form as an entry of "sys", and another production.
+    #[tactic(auto, using(crate::specs::ModLaws::lacking_impl), unfolding(text::specs::Language::mod_version))]
+    fn take(
+        self,
+        vers: &mut Filled<64>,
+        impls: &mut Filled<256>,
+        reader: &mut Reader<'_>,
+    ) -> Option<ModVersions> {
+        let v = read_names::take_name(vers, reader)?;
+        reader.key(Keyword::Impl)?;
+        let i = read_names::take_imp(impls, reader)?;
+        Some(ModVersions(with_mod_version(self.0, v, i)))
+    }
+
+    ghost takes = { mod_version_takes };
 }
 
-// vn "impl" imp {";" vn "impl" imp}
-fn take_mod_versions(
-    vers: &mut [u8],
-    impls: &mut [u8],
-    reader: &mut Reader<'_>,
-    start: ModVersions,
-) -> Option<ModVersions>
-    requires kept { Kept versions vers.old }
-    requires kept_2 { Kept implementations impls.old }
-    ensures kept_3 { Kept versions vers.new }
-    ensures kept_4 { Kept implementations impls.new }
-    ensures answers { Gives (list_of semicolon mod_version)
-        (λ r. Each ModStep (mod_state vers.old impls.old start) (mod_state vers.new impls.new r))
-        reader.old reader.new result }
+// It has the form of pair_of, and fills in another struct.
+#[tactic(auto, unfolding(crate::specs::ModSteps::mod_made, read_tokens::specs::Entering::both))]
+fn mod_request(c: Option<usize>, v: Option<Numbers>) -> Option<ModRequest>
+    ensures { result ≡ mod_made c v }
 {
-    let mut g = start;
-    loop {
-        g = take_mod_version(vers, impls, reader, g)?;
-        if !reader.passes_mark(b';') {
-            return Some(g);
-        }
-    }
-}
-
-fn no_mod_versions() -> ModVersions
-    ensures { (v i : List ℕ) → mod_state v i result ≡ mod_start (table_of versions v) (table_of implementations i) }
-{
-    ModVersions {
-        numbers: command_lists::no_numbers(),
-        vers: true,
-        impls: true,
-    }
-}
-
-fn mod_request(c: Taken, v: ModVersions) -> ModRequest
-    ensures { ModMade c.number c.room v result }
-{
-    ModRequest {
-        component: c.number,
-        versions: v.numbers,
-        room: c.room & (v.vers & v.impls),
-    }
+    Some(ModRequest {
+        component: c?,
+        versions: v?,
+    })
 }
 
 // add-mod = "mod" cn ";" vn "impl" imp {";" vn "impl" imp} "end", from behind "mod".
+#[tactic(auto, using(read_tokens::specs::SequenceLaws::lacking), unfolding(text::specs::Language::add_mod))]
 pub fn read_mod(
-    comps: &mut [u8],
-    vers: &mut [u8],
-    impls: &mut [u8],
+    tables: &mut PairTables,
+    impls: &mut Filled<256>,
     reader: &mut Reader<'_>,
-) -> Option<ModRequest>
-    requires kept { Kept components comps.old }
-    requires kept_2 { Kept versions vers.old }
-    requires kept_3 { Kept implementations impls.old }
-    ensures kept_4 { Kept components comps.new }
-    ensures kept_5 { Kept versions vers.new }
-    ensures kept_6 { Kept implementations impls.new }
-    ensures by_index { (f : List ℕ) → Gives add_mod
-        (ModAsked (tables_of comps.old vers.old f impls.old) (tables_of comps.new vers.new f impls.new))
+) -> Option<Option<ModRequest>>
+    ensures by_index { (f : Rows) → Gives add_mod
+        (ModAsked (four tables.old f impls.old.table.rows) (four tables.new f impls.new.table.rows))
         reader.old reader.new result }
 {
-    let c = read_names::take_name(comps, 32, reader)?;
+    let c = read_names::take_name(&mut tables.comps, reader)?;
     reader.mark(b';')?;
-    let v = take_mod_versions(vers, impls, reader, no_mod_versions())?;
+    let none = ModVersions(Some(Gathered::none(0)));
+    let v = take_list(none, &mut tables.vers, impls, b';', reader)?;
     reader.key(Keyword::End)?;
-    Some(mod_request(c, v))
+    Some(mod_request(c, v.0))
 }
 
-fn pair_taken(c: Taken, v: Taken) -> PairTaken
-    ensures { PairMade c.number c.room v.number v.room result }
+// It has mod_request's form, and fills in another struct.
+#[tactic(auto, unfolding(crate::specs::ModSteps::pair_made, read_tokens::specs::Entering::both))]
+fn pair_of(c: Option<usize>, v: Option<usize>) -> Option<Pair>
+    ensures { result ≡ pair_made c v }
 {
-    PairTaken {
-        component: c.number,
-        version: v.number,
-        comps: c.room,
-        vers: v.room,
-    }
+    Some(Pair {
+        component: c?,
+        version: v?,
+    })
 }
 
 // cn "." vn
-pub fn take_pair(comps: &mut [u8], vers: &mut [u8], reader: &mut Reader<'_>) -> Option<PairTaken>
-    requires kept { Kept components comps.old }
-    requires kept_2 { Kept versions vers.old }
-    ensures kept_3 { Kept components comps.new }
-    ensures kept_4 { Kept versions vers.new }
-    ensures answers { Gives pair
-        (PairEnters (table_of components comps.old) (table_of components comps.new) (table_of versions vers.old) (table_of versions vers.new))
+#[tactic(auto, using(read_tokens::specs::SequenceLaws::lacking), unfolding(text::specs::Language::pair))]
+pub fn take_pair(tables: &mut PairTables, reader: &mut Reader<'_>) -> Option<Option<Pair>>
+    ensures { Gives pair
+        (PairEnters (table_of components tables.old.comps.table.rows) (table_of components tables.new.comps.table.rows)
+        (table_of versions tables.old.vers.table.rows) (table_of versions tables.new.vers.table.rows))
         reader.old reader.new result }
 {
-    let c = read_names::take_name(comps, 32, reader)?;
+    let c = read_names::take_name(&mut tables.comps, reader)?;
     reader.mark(b'.')?;
-    let v = read_names::take_name(vers, 64, reader)?;
-    Some(pair_taken(c, v))
+    let v = read_names::take_name(&mut tables.vers, reader)?;
+    Some(pair_of(c, v))
 }
 
-fn modvar_request(p: PairTaken, q: Facilities, i: Taken) -> ModvarRequest
-    ensures { ModvarMade p q.set q.room i.number i.room result }
+#[tactic(auto, unfolding(crate::specs::ModSteps::modvar_made, read_tokens::specs::Entering::both))]
+fn modvar_request(p: Option<Pair>, q: Option<u64>, i: Option<usize>) -> Option<ModvarRequest>
+    ensures { result ≡ modvar_made p q i }
 {
-    ModvarRequest {
+    let p = p?;
+    Some(ModvarRequest {
         component: p.component,
         version: p.version,
-        required: q.set,
-        implementation: i.number,
-        room: p.comps & (p.vers & (q.room & i.room)),
-    }
+        required: q?,
+        implementation: i?,
+    })
 }
 
 // add-modvar = "modvar" cn "." vn ["requires" facs] "impl" imp, from behind "modvar".
+#[tactic(auto, using(crate::specs::ModLaws::lacking_impl), unfolding(text::specs::Language::add_modvar))]
 pub fn read_modvar(
-    comps: &mut [u8],
-    vers: &mut [u8],
-    facs: &mut [u8],
-    impls: &mut [u8],
+    tables: &mut PairTables,
+    facs: &mut Filled<64>,
+    impls: &mut Filled<256>,
     reader: &mut Reader<'_>,
-) -> Option<ModvarRequest>
-    requires kept { Kept components comps.old }
-    requires kept_2 { Kept versions vers.old }
-    requires kept_3 { Kept facilities facs.old }
-    requires kept_4 { Kept implementations impls.old }
-    ensures kept_5 { Kept components comps.new }
-    ensures kept_6 { Kept versions vers.new }
-    ensures kept_7 { Kept facilities facs.new }
-    ensures kept_8 { Kept implementations impls.new }
-    ensures answers { Gives add_modvar
-        (ModvarAsked (tables_of comps.old vers.old facs.old impls.old) (tables_of comps.new vers.new facs.new impls.new))
+) -> Option<Option<ModvarRequest>>
+    ensures { Gives add_modvar
+        (ModvarAsked (four tables.old facs.old.table.rows impls.old.table.rows) (four tables.new facs.new.table.rows impls.new.table.rows))
         reader.old reader.new result }
 {
-    let p = take_pair(comps, vers, reader)?;
-    let q = read_names::take_requirements(facs, reader, true)?;
+    let p = take_pair(tables, reader)?;
+    let q = read_names::take_requirements(facs, reader)?;
     reader.key(Keyword::Impl)?;
-    let i = read_names::take_imp(impls, 256, reader)?;
+    let i = read_names::take_imp(impls, reader)?;
     Some(modvar_request(p, q, i))
 }

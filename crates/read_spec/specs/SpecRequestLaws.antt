@@ -1,49 +1,55 @@
 -- "spec" read whole.
-use Rattle.std.specs.Prelude.{Bool, ◌≡◌, ◌≤◌, ℕ, drop}
+use Rattle.std.specs.Prelude.{Bool, List, [], Option, Some, ◌∷◌, map, ◌≡◌, ℕ, drop, is_some, option_map}
 use Rattle.std.proofs.Math.Bool.{true}
-use mathlib.Core.List.{List, [], ◌++◌, ◌∷◌, map, map-map}
-use Rattle.std.proofs.Common.{◌∙◌}
-use Rattle.std.proofs.Math.Path.{ap, ap₂, refl, subst, sym}
-use Rattle.std.proofs.Math.ListN.{length}
-use Rattle.model.specs.Book.{components, facilities, implementations, versions}
+use mathlib.Core.List.{map-map}
+use Rattle.std.proofs.Common.{◌∙◌, ap₂}
+use Rattle.std.proofs.Math.Path.{ap, refl, subst, sym}
+use Rattle.model.specs.Book.{components, facilities, versions}
 use Rattle.model.specs.Commands.{ADD-SPEC}
-use Rattle.names.specs.EnterLaws.{table-length}
-use Rattle.names.specs.Stored.{table_of, tables_of}
-use Rattle.command_lists.specs.Gathered.{Gathered, gather, nothing}
-use Rattle.command_lists.specs.Said.{always, sets_of, sets_step}
 use Rattle.model.specs.Lists.{set_of}
 use Rattle.model.specs.Questions.{each_below}
+use Rattle.names.specs.Stored.{Rows, table_of, tables_of}
+use Rattle.command_lists.specs.Gathered.{Gathered, gather, nothing}
+use Rattle.command_lists.specs.Said.{always, sets_of, sets_step}
 use Rattle.command_lists.specs.Views.{sets_view}
 use Rattle.sets.specs.Sets.{Set, bit}
-use Rattle.sets.specs.TestLaws.{and_l, and_r, and_swap, and-true, ≤?_in}
+use Rattle.sets.specs.TestLaws.{and_absorb}
 use Rattle.sets.specs.Tests.{◌&◌}
-use Rattle.text.specs.Bytes.{Text, bytes, keywords}
+use Rattle.text.specs.Bytes.{bytes, keywords}
 use Rattle.text.specs.Language.{Name, Reader as Production, SPEC, Said, ◌>>=◌, ◌>>◌, give, key, list_of, semicolon, spec_version}
 use Rattle.text.specs.Language.{standards, the_one, want}
-use Rattle.text.specs.Tables.{Table, Tables, enter, entered, fits, joined, name_at, number, numbers, spec_names, spec_numbered}
-use Rattle.read_tokens.specs.Asked.{SpecBody, SpecState, spec_body, spec_start, spec_state}
-use Rattle.read_tokens.specs.Entering.{Enters}
-use Rattle.read_tokens.specs.FacilityLaws.{facilities_are, facilities_grow}
-use Rattle.read_tokens.specs.Growth.{Grows, fold_on}
-use Rattle.read_tokens.specs.GrowthLaws.{enter_nothing, enters_number, grows_one, grows_then, longer_none, longer_same}
-use Rattle.read_tokens.specs.Readers.{key_at}
-use Rattle.read_tokens.specs.Requested.{SpecAsked, SpecAsks, SpecMade}
-use Rattle.read_spec.specs.ReaderLaws.{bind_bind, bind_same, give_bind, then_bind, then_same}
-use Rattle.read_spec.specs.SpecLaws.{StandardIs, spec_all, spec_facs, spec_vers, standard_is}
-use Rattle.read_tokens.specs.Steps.{Each, FacilityStep}
-use Rattle.read_tokens.specs.SequenceLaws.{Lacks, Read}
+use Rattle.text.specs.Tables.{Table, Tables, name_at, number, numbers, spec_names, spec_numbered}
+use Rattle.read_tokens.specs.BothLaws.{both_out, both_there, map_there, some_same, zip_out, zip_there}
+use Rattle.read_tokens.specs.Entering.{Enters, both}
+use Rattle.read_tokens.specs.FacilityLaws.{facilities_are, facilities_grow, only_facs}
+use Rattle.read_tokens.specs.Growth.{Grows, Within, fold_on, joint}
+use Rattle.read_tokens.specs.GrowthLaws.{enters_number, grows_comp, grows_on, grows_room, grows_tables, grows_then, longer_none, longer_same}
+use Rattle.read_tokens.specs.GrowthLaws.{tables_within}
+use Rattle.read_tokens.specs.Readers.{Any, key_at}
+use Rattle.read_tokens.specs.Requested.{SpecAsked, SpecAsks}
+use Rattle.read_tokens.specs.SequenceLaws.{Lacks, Read, as_named, lacking, not_named}
+use Rattle.read_tokens.specs.Steps.{Each, FacilityStep, facility_start, facility_state}
 use Rattle.read_tokens.specs.declared.SpecRequest.{SpecRequest}
-use Rattle.read_tokens.specs.declared.SpecVersions.{SpecVersions}
 use Rattle.read_tokens.specs.declared.reader.Reader.{Reader}
-
-abbrev Version : Type 0
-Version = Bool × (Name × List Name)
+use Rattle.read_spec.specs.Asked.{BodyRead, Sets, SpecState, made, spec_body, spec_start, spec_state}
+use Rattle.read_spec.specs.ReaderLaws.{bind_bind, bind_same, give_bind, then_bind, then_same}
+use Rattle.read_spec.specs.SpecLaws.{Version, spec_all, spec_grows, spec_mentions}
+use Rattle.read_spec.specs.StandardLaws.{Carries, StandardIs, once_same, standard_is}
 
 -- ---- what is read
 
-pub provides_key : key_at 12 ≡ key "provides"
+provides_key : key_at 12 ≡ key "provides"
 unfolding key_at key name_at keywords bytes
 provides_key = refl
+
+pub provides_read : (r s : Reader) → Read (want (key_at 12)) Any r s → Read (want (key "provides")) Any r s
+provides_read r s g = as_named provides_key r s g
+
+pub provides_lacks : (r : Reader) → Lacks (want (key_at 12)) r → Lacks (want (key "provides")) r
+provides_lacks r n = not_named provides_key r n
+
+-- nothing is given where one of the productions lacks
+pub ruleset lacking_provides = (lacking, provides_read, provides_lacks)
 
 -- the rest of the production, given by the reader of the versions
 abbrev pub rest : Name → List Name → Production Said
@@ -53,7 +59,7 @@ rest c ps = list_of semicolon spec_version
 abbrev pub by_body : Name → List Name → Production Said
 by_body c ps = spec_body >>= (λ x. give (SPEC c ps (map (λ v. v.1) x.0) x.1))
 
-rest_body : (c : Name) (ps : List Name) (u : Text) → rest c ps u ≡ by_body c ps u
+rest_body : (c : Name) (ps : List Name) (u : List ℕ) → rest c ps u ≡ by_body c ps u
 unfolding spec_body
 rest_body c ps u = sym (bind_bind (list_of semicolon spec_version) _ _ u ∙ bind_same (list_of semicolon spec_version) _ _ (λ vs v.
     then_bind (want (key "end")) _ _ v ∙ then_same (want (key "end")) _ _ (λ w.
@@ -82,136 +88,100 @@ unfolding fold_on gather sets_step
 gather_fold g [] = refl
 gather_fold g (x ∷ xs) = gather_fold (sets_step g x) xs
 
-and-room : (a b c d : Bool) → d ≡ true → (a & (b & c)) ≡ (a & (b & (c & d)))
-and-room a b c d e = ap (λ (x : Bool). a & (b & x)) (sym (ap (λ (x : Bool). c & x) e ∙ and_swap c true ∙ and-true _ _ refl))
-
-module _ (t : Tables) (hc : length t.comps ≤ components) (hv : length t.vers ≤ versions) (hf : length t.facs ≤ facilities)
-    (hi : length t.impls ≤ implementations) (comps' facs₁ : Table) (s' : SpecState) (number₁ : ℕ) (placed : Bool) (provided : ℕ)
-    (fit : Bool) (c : Name) (ps : List Name) (xs : List Version) (w : Name)
-    (n : Enters components t.comps comps' number₁ placed c)
-    (p : Each FacilityStep (t.facs, bit 0, true) (facs₁, bit provided, fit) ps)
-    (b : SpecBody (spec_start t.vers facs₁ fit) s' (xs, w)) where
+-- the tables t; the component c, the facilities ps, and the versions xs with the standard version w, read one after the other
+module _ (t : Tables) (k : Within t) (comps' facs₁ : Table) (v f : Rows) (oc op : Option ℕ) (ob : Option (Sets × ℕ))
+    (c : Name) (ps : List Name) (xs : List Version) (w : Name) (n : Enters components t.comps comps' oc c)
+    (p : Each FacilityStep (facility_start t.facs) (facs₁, option_map bit op) ps)
+    (b : BodyRead (spec_start t.vers facs₁) v f ob (xs, w)) where
   abbrev vs : List (Name × List Name)
-  vs = map (λ v. v.1) xs
+  vs = map (λ x. x.1) xs
+
+  abbrev s' : SpecState
+  s' = spec_state v f b.last
 
   abbrev after : Tables
-  after = record { comps = comps'; vers = s'.vers; facs = s'.facs; impls = t.impls }
+  after = record { comps = comps'; vers = table_of versions v; facs = table_of facilities f; impls = t.impls }
 
-  comps_grow : Grows components t.comps comps' true placed (c ∷ [])
-  comps_grow = grows_one components _ _ number₁ placed true placed c hc n (sym (and-true _ _ refl))
+  carries : Carries s' b.standard w
+  carries =
+      let is = standard_is (spec_start t.vers facs₁) s' xs b.steps (unfold spec_start in refl) in
+      let s : (o : Option ℕ) × Carries s' o w = subst (StandardIs s') b.one is in
+      subst (λ (o : Option ℕ). Carries s' o w) (once_same (sym s.1.once ∙ (unfold spec_state in b.once))) s.1
 
-  vers_grow : Grows versions t.vers s'.vers true s'.vers_fit (map (λ x. x.0) vs)
-  unfolding spec_start
-  vers_grow =
-      subst (Grows versions t.vers s'.vers true s'.vers_fit) (sym (map-map (λ (x : Name × List Name). x.0) (λ (x : Version). x.1) xs))
-      (spec_vers (spec_start t.vers facs₁ fit) s' xs hv b.steps)
+  -- the request is there where each name found a place
+  there : (r : Option SpecRequest) → r ≡ made oc op ob → is_some r ≡ ((is_some oc & is_some (option_map bit op)) & is_some s'.sets)
+  unfolding made spec_state
+  there r q =
+      ap is_some q ∙ both_there _ (both _ oc op) ob
+      ∙ ap₂ ◌&◌ (both_there _ oc op ∙ ap (λ (x : Bool). is_some oc & x) (sym (map_there bit op)))
+      (ap is_some b.body ∙ zip_there b.last.sets b.standard
+      ∙ ap (λ (x : Bool). x & is_some b.standard) (sym (map_there sets_view b.last.sets))
+      ∙ and_absorb (is_some s'.sets) (is_some b.standard) carries.there)
 
-  provided_grow : Grows facilities t.facs facs₁ true fit ps
-  provided_grow = facilities_grow (t.facs, bit 0, true) (facs₁, bit provided, fit) ps hf p
+  grow : Grows t after true ((is_some oc & is_some (option_map bit op)) & is_some s'.sets) (spec_names c ps vs)
+  unfolding ◌&◌ joint spec_names facility_start spec_start spec_state
+  grow =
+      let t₁ : Tables = record { comps = comps'; vers = t.vers; facs = t.facs; impls = t.impls } in
+      let t₂ : Tables = record { comps = comps'; vers = t.vers; facs = facs₁; impls = t.impls } in
+      let a : Bool = is_some oc in let d : Bool = a & is_some (option_map bit op) in
+      let one : Tables = record { comps = c ∷ []; vers = []; facs = []; impls = [] } in
+      grows_then t t₂ after true d (d & is_some s'.sets) (joint one (only_facs ps)) (spec_mentions vs)
+      (grows_then t t₁ t₂ true a d one (only_facs ps) (grows_comp t true comps' oc c n)
+      (grows_on t₁ t₂ a _ _ (only_facs ps) refl (facilities_grow t₁ (facility_start t.facs) (facs₁, option_map bit op) ps p)))
+      (grows_on t₂ after d _ _ (spec_mentions vs) refl (spec_grows t₂ (spec_start t.vers facs₁) s' xs b.steps))
 
-  facs_grow : Grows facilities t.facs s'.facs true s'.facs_fit (ps ++ joined (map (λ x. x.1) vs))
-  unfolding spec_start
-  facs_grow =
-      subst (λ (l : List (List Name)). Grows facilities t.facs s'.facs true s'.facs_fit (ps ++ joined l))
-      (sym (map-map (λ (x : Name × List Name). x.1) (λ (x : Version). x.1) xs))
-      (grows_then facilities t.facs facs₁ s'.facs true fit s'.facs_fit ps _ provided_grow
-      (spec_facs (spec_start t.vers facs₁ fit) s' xs provided_grow.small b.steps))
+  asks : (r : Option SpecRequest) → r ≡ made oc op ob → (q : SpecRequest) → r ≡ Some q → SpecAsks (spec_numbered after c ps vs w) q
+  unfolding made
+  asks r e q y =
+      let m = both_out _ (both _ oc op) ob (sym e ∙ y) in
+      let h = both_out _ oc op m.2 in
+      let g = zip_out b.last.sets b.standard (sym b.body ∙ m.3) in
+      subst (SpecAsks (spec_numbered after c ps vs w))
+      (ap₂ (λ (x : ℕ × ℕ) (z : Sets × ℕ). record { component = x.0; provided = x.1; versions = z.0; standard = z.1 }) h.4 g.4 ∙ m.4)
+      (asked h.0 h.1 g.0 g.1 h.2 h.3 g.2 g.3)
+    where
+      numbered : (k k' : ℕ) (l l' : List ℕ) (m m' : List (ℕ × List ℕ)) (j j' : ℕ) → k ≡ k' → l ≡ l' → m ≡ m' → j ≡ j'
+          → ADD-SPEC k l m j ≡ ADD-SPEC k' l' m' j'
+      numbered k k' l l' m m' j j' e f g h = rw (e, f, g, h)
 
-  spec_room_lem : (placed & (s'.vers_fit & s'.facs_fit)) ≡ fits (entered t (spec_names c ps vs))
-  unfolding fits entered spec_names
-  spec_room_lem =
-      ap₂ ◌&◌ (comps_grow.room ∙ and-true _ _ refl)
-      (ap₂ ◌&◌ (vers_grow.room ∙ and-true _ _ refl) (facs_grow.room ∙ and-true _ _ refl))
-      ∙ and-room _ _ _ _ (≤?_in _ _ (subst (λ (u : Table). length u ≤ implementations) (sym (enter_nothing t.impls)) hi))
+      asked : (k set : ℕ) (a : Sets) (j : ℕ) → oc ≡ Some k → op ≡ Some set → b.last.sets ≡ Some a → b.standard ≡ Some j
+          → SpecAsks (spec_numbered after c ps vs w) (record { component = k; provided = set; versions = a; standard = j })
+      asked k set a j ek es ea ej =
+          unfold spec_numbered spec_start spec_state sets_of numbers in
+          let all = spec_all (spec_start t.vers facs₁) s' xs (sets_view a) b.steps (ap (option_map sets_view) ea) in
+          let fs = facilities_are t.facs (facs₁, option_map bit op) (bit set) ps p (ap (option_map bit) es) in
+          record {
+            facs = fs.values;
+            list = all.values;
+            is = numbered _ _ _ _ _ _ _ _
+                (enters_number components t.comps comps' oc c n k ek comps' (longer_same comps'))
+                (fs.are s'.facs all.later.facs)
+                (map-map (λ (x : Name × List Name). (number s'.vers x.0, numbers s'.facs x.1)) (λ (x : Version). x.1) xs
+                ∙ all.are after (record { comps = longer_none _; vers = longer_same _; facs = longer_same _; impls = longer_none _ }))
+                (carries.number_is j ej s'.vers (longer_same s'.vers));
+            below = fs.below;
+            provided = fs.set_is;
+            versions = all.add ∙ ap (λ (z : Gathered Set). fold_on sets_step z all.values) (sym (some_same all.was)) ∙ gather_fold nothing all.values;
+          }
 
-  module _ (y : (placed & (s'.vers_fit & s'.facs_fit)) ≡ true) where
-    spec_tables_lem : after ≡ entered t (spec_names c ps vs)
-    unfolding entered spec_names
-    spec_tables_lem =
-        let a = comps_grow.table (and_l _ _ y) in let d = vers_grow.table (and_l _ _ (and_r _ _ y)) in
-        let e = facs_grow.table (and_r _ _ (and_r _ _ y)) in
-        ap (λ (x : Table). record { comps = x; vers = s'.vers; facs = s'.facs; impls = t.impls }) a
-        ∙ ap (λ (x : Table). record { comps = enter t.comps (c ∷ []); vers = x; facs = s'.facs; impls = t.impls }) d
-        ∙ ap (λ (x : Table). record {
-          comps = enter t.comps (c ∷ []);
-          vers = enter t.vers (map (λ x. x.0) vs);
-          facs = x;
-          impls = t.impls;
-        }) e
-        ∙ ap (λ (x : Table). record {
-          comps = enter t.comps (c ∷ []);
-          vers = enter t.vers (map (λ x. x.0) vs);
-          facs = enter t.facs (ps ++ joined (map (λ x. x.1) vs));
-          impls = x;
-        }) (sym (enter_nothing t.impls))
-
-    spec_asks : (r : SpecRequest) → r.component ≡ number₁ → r.provided ≡ provided → sets_view r.versions ≡ s'.sets
-        → r.standard ≡ s'.standard → SpecAsks (spec_numbered after c ps vs w) r
-    unfolding spec_numbered spec_start sets_of numbers
-    spec_asks r qc qp qv qs =
-        let all = spec_all (spec_start t.vers facs₁ fit) s' xs b.steps (and_r _ _ y) in
-        let fs = facilities_are t.facs facs₁ true fit (bit provided) ps p (and_r _ _ all.before) in
-        record {
-          facs = fs.values;
-          list = all.values;
-          is = numbered _ _ _ _ _ _ _ _
-              (enters_number components t.comps comps' number₁ placed c n (and_l _ _ y) comps' (longer_same comps') ∙ sym qc)
-              (fs.are s'.facs all.later.facs)
-              (map-map (λ (x : Name × List Name). (number s'.vers x.0, numbers s'.facs x.1)) (λ (x : Version). x.1) xs
-              ∙ all.are after (record { comps = longer_none _; vers = longer_same _; facs = longer_same _; impls = longer_none _ }))
-              (standard ∙ sym qs);
-          below = fs.below;
-          provided = fs.set_is ∙ ap bit (sym qp);
-          versions = qv ∙ all.add ∙ start all.values ∙ gather_fold nothing all.values;
-        }
-      where
-        numbered : (k k' : ℕ) (l l' : List ℕ) (m m' : List (ℕ × List ℕ)) (j j' : ℕ) → k ≡ k' → l ≡ l' → m ≡ m' → j ≡ j'
-            → ADD-SPEC k l m j ≡ ADD-SPEC k' l' m' j'
-        numbered k k' l l' m m' j j' e f g h = rw (e, f, g, h)
-
-        start : (l : List (ℕ × List ℕ)) → fold_on sets_step (spec_start t.vers facs₁ fit).sets l ≡ fold_on sets_step nothing l
-        start l = unfold spec_start in refl
-
-        standard : number s'.vers w ≡ s'.standard
-        standard =
-            (subst (StandardIs s') b.one
-            (standard_is (spec_start t.vers facs₁ fit) s' xs b.steps (unfold spec_start in refl) (unfold spec_start in refl))).2
-            (and_l _ _ (and_r _ _ y)) s'.vers (longer_same s'.vers)
-
-pub spec_asked : (C C' W W' F F₁ F' : List ℕ) (fit : Bool) (v : SpecVersions) (r : SpecRequest) {j set : ℕ} {placed : Bool} {c : Name}
-    {ps : List Name} {x : List Version × Name} → Enters components (table_of components C) (table_of components C') j placed c
-    → Each FacilityStep (table_of facilities F, bit 0, true) (table_of facilities F₁, bit set, fit) ps
-    → SpecBody (spec_start (table_of versions W) (table_of facilities F₁) fit) (spec_state W' F' v) x → SpecMade j placed set v r
-    → (i : List ℕ) → SpecAsked (tables_of C W F i) (tables_of C' W' F' i) r (SPEC c ps (map (λ v. v.1) x.0) x.1)
-unfolding tables_of spec_state
-spec_asked C C' W W' F F₁ F' fit v r {j = j} {set = set} {placed = placed} {c = c} {ps = ps} {x = x} f g h m i = record {
-  c = c;
-  ps = ps;
-  vs = map (λ z. z.1) x.0;
-  s = x.1;
-  is = refl;
-  room = m.room
-      ∙ spec_room_lem tables hc hv hf hi (table_of components C') (table_of facilities F₁) (spec_state W' F' v) j placed set fit c ps x.0 x.1
-      f g h;
-  tables = λ z.
-      spec_tables_lem tables hc hv hf hi (table_of components C') (table_of facilities F₁) (spec_state W' F' v) j placed set fit c ps x.0 x.1
-      f g h (sym m.room ∙ z);
-  asks = λ z.
-      spec_asks tables hc hv hf hi (table_of components C') (table_of facilities F₁) (spec_state W' F' v) j placed set fit c ps x.0 x.1
-      f g h (sym m.room ∙ z) r m.component m.set (ap sets_view m.versions) m.standard;
-}
-  where
-    tables : Tables
-    tables = tables_of C W F i
-
-    hc : length (table_of components C) ≤ components
-    hc = table-length components C
-
-    hv : length (table_of versions W) ≤ versions
-    hv = table-length versions W
-
-    hf : length (table_of facilities F) ≤ facilities
-    hf = table-length facilities F
-
-    hi : length (table_of implementations i) ≤ implementations
-    hi = table-length implementations i
+pub spec_asked : (C C' W F F₁ v f : Rows) (oc op : Option ℕ) (ob : Option (Sets × ℕ)) (r : Option SpecRequest) {c : Name} {ps : List Name}
+    {x : List Version × Name} → Enters components (table_of components C) (table_of components C') oc c
+    → Each FacilityStep (facility_start (table_of facilities F)) (facility_state F₁ op) ps
+    → BodyRead (spec_start (table_of versions W) (table_of facilities F₁)) v f ob x → r ≡ made oc op ob
+    → (i : Rows) → SpecAsked (tables_of C W F i) (tables_of C' v f i) r (SPEC c ps (map (λ v. v.1) x.0) x.1)
+unfolding tables_of facility_state
+spec_asked C C' W F F₁ v f oc op ob r {c = c} {ps = ps} {x = x} n p b e i =
+    let t : Tables = tables_of C W F i in
+    let C'' : Table = table_of components C' in let F'' : Table = table_of facilities F₁ in
+    let q = there t (tables_within C W F i) C'' F'' v f oc op ob c ps x.0 x.1 n p b r e in
+    let g = grow t (tables_within C W F i) C'' F'' v f oc op ob c ps x.0 x.1 n p b in
+    record {
+      c = c;
+      ps = ps;
+      vs = map (λ z. z.1) x.0;
+      s = x.1;
+      is = refl;
+      room = q ∙ grows_room t _ _ _ (tables_within C W F i) g;
+      tables = λ y. grows_tables t _ _ _ (tables_within C W F i) g (sym q ∙ y);
+      asks = asks t (tables_within C W F i) C'' F'' v f oc op ob c ps x.0 x.1 n p b r e;
+    }

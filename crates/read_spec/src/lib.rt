@@ -1,143 +1,149 @@
 // The command `spec` read from behind its first word, and what it asks for collected on the way.
 #![tactic(auto)]
 
-ghost use Rattle.std.specs.Prelude.{◌≡◌, List, ℕ};
-ghost use Rattle.names.specs.Stored.{table_of, tables_of};
-ghost use Rattle.read_tokens.specs.Requested.{SpecAsked, SpecMade};
-ghost use Rattle.model.specs.Book.{components, facilities, versions};
-ghost use Rattle.read_tokens.specs.Steps.{Each};
-ghost use Rattle.read_tokens.specs.Asked.{SpecBody, SpecStep, SpecWith, spec_body, spec_start, spec_state};
-ghost use Rattle.read_tokens.specs.Entering.{Kept};
-ghost use Rattle.text.specs.Language.{add_spec, list_of, semicolon, spec_version};
+ghost use Rattle.std.specs.Prelude.{Bool, List, ◌≡◌};
+ghost use Rattle.names.specs.Stored.{Rows, table_of};
+ghost use Rattle.read_tokens.specs.Requested.{SpecAsked};
+ghost use Rattle.model.specs.Book.{facilities, versions};
+ghost use Rattle.text_laws.specs.Takes.{spec_version_takes};
+ghost use Rattle.read_spec.specs.Asked.{BodyRead, SetsWith, SpecStep, carried, made, spec_body, spec_start, spec_state};
+ghost use Rattle.read_tokens.specs.Entering.{four};
+ghost use Rattle.text.specs.Language.{Name, add_spec, spec_version};
 ghost use Rattle.read_tokens.specs.Ahead.{Gives};
 
-use read_tokens::{Facilities, Keyword, Reader, SpecRequest, SpecVersions, Taken};
+use command_lists::{Gathered, Sets};
+use names::Filled;
+use read_tokens::{Entries, Keyword, PairTables, Reader, SpecRequest, take_list};
 
-// The version v, with "std" or without, that requires q.
-fn with_spec_version(g: SpecVersions, std: bool, v: Taken, q: Facilities) -> SpecVersions
-    ensures { SpecWith g std v.number v.room q.set q.room result }
-{
-    SpecVersions {
-        sets: command_lists::with_set(g.sets, v.number, q.set),
-        found: g.found | std,
-        twice: g.twice | (g.found & std),
-        standard: if std { v.number } else { g.standard },
-        vers: g.vers & v.room,
-        facs: q.room,
-    }
+// Which of the versions that were read carries "std": none, one with its number (if there was a place for its name), or more than one.
+// An Option would not tell one from two.
+#[derive(Clone, Copy)]
+enum Standard {
+    Missing,
+    Once(Option<usize>),
+    Twice,
 }
 
-// ["std"] vn ["requires" facs]
-fn take_spec_version(
-    vers: &mut [u8],
-    facs: &mut [u8],
-    reader: &mut Reader<'_>,
-    g: SpecVersions,
-) -> Option<SpecVersions>
-    requires kept { Kept versions vers.old }
-    requires kept_2 { Kept facilities facs.old }
-    ensures kept_3 { Kept versions vers.new }
-    ensures kept_4 { Kept facilities facs.new }
-    ensures answers { Gives spec_version
-        (λ r. SpecStep (spec_state vers.old facs.old g) (spec_state vers.new facs.new r))
-        reader.old reader.new result }
-{
-    let std = reader.passes_key(Keyword::Std);
-    let v = read_names::take_name(vers, 64, reader)?;
-    let q = read_names::take_requirements(facs, reader, g.facs)?;
-    Some(with_spec_version(g, std, v, q))
-}
-
-// ["std"] vn ["requires" facs] {";" ["std"] vn ["requires" facs]}
-fn take_spec_versions(
-    vers: &mut [u8],
-    facs: &mut [u8],
-    reader: &mut Reader<'_>,
-    start: SpecVersions,
-) -> Option<SpecVersions>
-    requires kept { Kept versions vers.old }
-    requires kept_2 { Kept facilities facs.old }
-    ensures kept_3 { Kept versions vers.new }
-    ensures kept_4 { Kept facilities facs.new }
-    ensures answers { Gives (list_of semicolon spec_version)
-        (λ r. Each SpecStep (spec_state vers.old facs.old start) (spec_state vers.new facs.new r))
-        reader.old reader.new result }
-{
-    let mut g = start;
-    loop {
-        g = take_spec_version(vers, facs, reader, g)?;
-        if !reader.passes_mark(b';') {
-            return Some(g);
+impl Standard {
+    // One version more, at the place v, with "std" or without.
+    #[tactic(auto, unfolding(crate::specs::Asked::carried))]
+    fn with(self, std: bool, v: Option<usize>) -> Standard
+        ensures { result ≡ carried std self v }
+    {
+        if !std {
+            return self;
+        }
+        match self {
+            Standard::Missing => Standard::Once(v),
+            Standard::Once(_) => Standard::Twice,
+            Standard::Twice => Standard::Twice,
         }
     }
 }
 
-fn no_spec_versions(room: bool) -> SpecVersions
-    ensures { (v f : List ℕ) → spec_state v f result ≡ spec_start (table_of versions v) (table_of facilities f) room }
+// Versions with the facilities that each requires, if there was a place for each name.
+#[derive(Clone, Copy)]
+struct SpecVersions {
+    sets: Option<Sets>,
+    standard: Standard,
+}
+
+// One version more, at the place v, that requires q.
+#[tactic(auto, using(crate::specs::SetLaws::not_there))]
+fn with_set(g: Option<Sets>, v: Option<usize>, q: Option<u64>) -> Option<Sets>
+    ensures { SetsWith g v q result }
+{
+    Some(command_lists::with_set(g?, v?, q?))
+}
+
+// A version more: ["std"] vn ["requires" facs].
+impl Entries for SpecVersions {
+    type Table = Filled<64>;
+
+    type Other = Filled<64>;
+
+    ghost Said = { Bool × (Name × List Name) };
+
+    ghost entry = { spec_version };
+
+    ghost step = { λ s s' x. SpecStep (spec_state s.0.table.rows s.1.table.rows s.2) (spec_state s'.0.table.rows s'.1.table.rows s'.2) x };
+
+    fn take(
+        self,
+        vers: &mut Filled<64>,
+        facs: &mut Filled<64>,
+        reader: &mut Reader<'_>,
+    ) -> Option<SpecVersions> {
+        let std = reader.passes_key(Keyword::Std);
+        let v = read_names::take_name(vers, reader)?;
+        let q = read_names::take_requirements(facs, reader)?;
+        Some(SpecVersions {
+            sets: with_set(self.sets, v, q),
+            standard: self.standard.with(std, v),
+        })
+    }
+
+    ghost takes = { spec_version_takes };
+}
+
+#[tactic(auto, using(crate::specs::SetLaws::started))]
+fn no_spec_versions() -> SpecVersions
+    ensures { (v f : Rows) → spec_state v f result ≡ spec_start (table_of versions v) (table_of facilities f) }
 {
     SpecVersions {
-        sets: command_lists::no_sets(),
-        found: false,
-        twice: false,
-        standard: 0,
-        vers: true,
-        facs: room,
+        sets: Some(Gathered::none(0)),
+        standard: Standard::Missing,
     }
 }
 
-// The versions of a specification, up to "end": exactly one carries "std".
+// The versions of a specification, up to "end", and the number of the standard one: exactly one carries "std".
+#[tactic(auto, using(read_tokens::specs::SequenceLaws::lacking), unfolding(crate::specs::Asked::spec_body))]
 fn take_spec_body(
-    vers: &mut [u8],
-    facs: &mut [u8],
+    vers: &mut Filled<64>,
+    facs: &mut Filled<64>,
     reader: &mut Reader<'_>,
-    room: bool,
-) -> Option<SpecVersions>
-    requires kept { Kept versions vers.old }
-    requires kept_2 { Kept facilities facs.old }
-    ensures kept_3 { Kept versions vers.new }
-    ensures kept_4 { Kept facilities facs.new }
-    ensures answers { Gives spec_body
-        (λ r. SpecBody (spec_start (table_of versions vers.old) (table_of facilities facs.old) room) (spec_state vers.new facs.new r))
+) -> Option<Option<(Sets, usize)>>
+    ensures { Gives spec_body
+        (BodyRead (spec_start (table_of versions vers.old.table.rows) (table_of facilities facs.old.table.rows))
+        vers.new.table.rows facs.new.table.rows)
         reader.old reader.new result }
 {
-    let v = take_spec_versions(vers, facs, reader, no_spec_versions(room))?;
+    let v = take_list(no_spec_versions(), vers, facs, b';', reader)?;
     reader.key(Keyword::End)?;
-    if v.found & !v.twice { Some(v) } else { None }
+    // `?` takes no variant of an enum of three.
+    let Standard::Once(standard) = v.standard else {
+        return None;
+    };
+    Some(v.sets.zip(standard))
 }
 
-fn spec_request(c: Taken, p: Facilities, v: SpecVersions) -> SpecRequest
-    ensures { SpecMade c.number c.room p.set v result }
+#[tactic(auto, unfolding(crate::specs::Asked::made, read_tokens::specs::Entering::both))]
+fn spec_request(c: Option<usize>, p: Option<u64>, b: Option<(Sets, usize)>) -> Option<SpecRequest>
+    ensures { result ≡ made c p b }
 {
-    SpecRequest {
-        component: c.number,
-        provided: p.set,
-        versions: v.sets,
-        standard: v.standard,
-        room: c.room & (v.vers & v.facs),
-    }
+    let (versions, standard) = b?;
+    Some(SpecRequest {
+        component: c?,
+        provided: p?,
+        versions,
+        standard,
+    })
 }
 
 // add_spec = "spec" cn "provides" [facs] ";" ["std"] vn ["requires" facs] {";" ["std"] vn ["requires" facs]} "end", from behind "spec".
-// The names are put into the tables that are lent: the caller throws these away where there was no room, or the command is refused.
+// The names are put into the tables that are lent: the caller throws these away where a name found no place, or the command is refused.
+#[tactic(auto, using(crate::specs::SpecRequestLaws::lacking_provides), unfolding(text::specs::Language::add_spec))]
 pub fn read_spec(
-    comps: &mut [u8],
-    vers: &mut [u8],
-    facs: &mut [u8],
+    tables: &mut PairTables,
+    facs: &mut Filled<64>,
     reader: &mut Reader<'_>,
-) -> Option<SpecRequest>
-    requires kept { Kept components comps.old }
-    requires kept_2 { Kept versions vers.old }
-    requires kept_3 { Kept facilities facs.old }
-    ensures kept_4 { Kept components comps.new }
-    ensures kept_5 { Kept versions vers.new }
-    ensures kept_6 { Kept facilities facs.new }
-    ensures by_index { (i : List ℕ) → Gives add_spec
-        (SpecAsked (tables_of comps.old vers.old facs.old i) (tables_of comps.new vers.new facs.new i))
-        reader.old reader.new result }
+) -> Option<Option<SpecRequest>>
+    ensures { (i : Rows) → Gives add_spec
+        (SpecAsked (four tables.old facs.old.table.rows i) (four tables.new facs.new.table.rows i)) reader.old reader.new result }
 {
-    let c = read_names::take_name(comps, 32, reader)?;
+    let c = read_names::take_name(&mut tables.comps, reader)?;
     reader.key(Keyword::Provides)?;
     let p = read_names::take_provided(facs, reader)?;
-    let v = take_spec_body(vers, facs, reader, p.room)?;
-    Some(spec_request(c, p, v))
+    let b = take_spec_body(&mut tables.vers, facs, reader)?;
+    Some(spec_request(c, p, b))
 }

@@ -1,256 +1,220 @@
-// The commands `sys` and `sysvar` read from behind their first word, and what they ask for collected on the way.
+// The commands `sys` and `sysvar` read from behind their first word, and what they ask for collected on the way. An answer in an answer:
+// the outer says whether it was read, the inner whether there was a place for each name.
 #![tactic(auto)]
 
-ghost use Rattle.std.specs.Prelude.{◌≡◌, List, ℕ};
-ghost use Rattle.names.specs.Stored.{table_of, tables_of};
-ghost use Rattle.read_tokens.specs.Requested.{SysvarAsked, SysvarMade, SysAsked, SysMade};
-ghost use Rattle.read_sys.specs.SysSteps.{SysStep, SysWith, UsableStart, UsableStep, sys_start, sys_state};
-ghost use Rattle.command_lists.specs.Views.{usable_view};
-ghost use Rattle.read_sys.specs.MemberSteps.{MemberStep, MemberWith, member_start, member_state};
+ghost use Rattle.std.specs.Prelude.{◌≡◌, option_map};
+ghost use Rattle.names.specs.Stored.{Rows, table_of};
+ghost use Rattle.command_lists.specs.Views.{composition_view, compositions_view, usable_view};
 ghost use Rattle.model.specs.Book.{components, versions};
+ghost use Rattle.sets.specs.Answered.{answered};
+ghost use Rattle.text.specs.Language.{Name, NamedMembers, add_sys, add_sysvar, comma, compo, list_of, name, sys_version};
+ghost use Rattle.text_laws.specs.Takes.{compo_takes, name_takes, sys_version_takes};
+ghost use Rattle.read_tokens.specs.Requested.{SysAsked, SysvarAsked};
 ghost use Rattle.read_tokens.specs.Steps.{Each};
-ghost use Rattle.read_tokens.specs.Entering.{Kept};
-ghost use Rattle.text.specs.Language.{add_sys, add_sysvar, comma, compo, list_of, name, semicolon, sys_version};
+ghost use Rattle.read_tokens.specs.Entering.{both, four};
 ghost use Rattle.read_tokens.specs.Ahead.{Gives};
+ghost use Rattle.read_sys.specs.MemberSteps.{Member, MemberStep, add_member, member_start, member_state, sysvar_made};
+ghost use Rattle.read_sys.specs.SysSteps.{SysStep, SysWith, UsableStep, add_usable, sys_made, sys_state, usable_state};
 
+use command_lists::{Composition, Compositions, Gathered, Usable};
+use names::Filled;
 use read_tokens::{
-    Keyword, Members, PairTaken, Reader, SysRequest, SysVersions, SysvarRequest, Taken, UsableNames,
+    Entries, Keyword, Pair, PairTables, Reader, SysRequest, SysvarRequest, take_list,
 };
 
-// The member c, with its version or LEFT_OUT.
-fn with_named_member(g: Members, c: Taken, version: usize, room: bool) -> Members
-    ensures { MemberWith g c.number c.room version room result }
+// ---- a composition
+
+// The member c, with its version where this is not left out.
+#[tactic(auto, unfolding(crate::specs::MemberSteps::add_member, read_tokens::specs::Entering::both))]
+fn with_named_member(
+    g: Option<Composition>,
+    c: Option<usize>,
+    version: Option<Option<usize>>,
+) -> Option<Composition>
+    ensures { option_map composition_view result ≡ add_member (option_map composition_view g) c (option_map answered version) }
 {
-    Members {
-        composition: command_lists::with_member(g.composition, c.number, version),
-        comps: g.comps & c.room,
-        vers: g.vers & room,
-    }
+    Some(command_lists::with_member(g?, c?, version?))
 }
 
-// cn ["." vn]
-fn take_member(
-    comps: &mut [u8],
-    vers: &mut [u8],
-    reader: &mut Reader<'_>,
-    g: Members,
-) -> Option<Members>
-    requires kept { Kept components comps.old }
-    requires kept_2 { Kept versions vers.old }
-    ensures kept_3 { Kept components comps.new }
-    ensures kept_4 { Kept versions vers.new }
-    ensures answers { Gives compo (λ r. MemberStep (member_state comps.old vers.old g) (member_state comps.new vers.new r))
-        reader.old reader.new result }
-{
-    let c = read_names::take_name(comps, 32, reader)?;
-    if !reader.passes_mark(b'.') {
-        return Some(with_named_member(g, c, command_lists::LEFT_OUT, true));
+// The members of a composition, if there was a place for each name.
+#[derive(Clone, Copy)]
+struct Members(Option<Composition>);
+
+impl Entries for Members {
+    type Table = PairTables;
+
+    type Other = ();
+
+    ghost Said = { Member };
+
+    ghost entry = { compo };
+
+    ghost step = { λ s s' x. MemberStep (member_state s.0 s.2.0) (member_state s'.0 s'.2.0) x };
+
+    // cn ["." vn]
+    #[tactic(auto, using(read_tokens::specs::SequenceLaws::lacking), unfolding(text::specs::Language::compo))]
+    fn take(
+        self,
+        tables: &mut PairTables,
+        _other: &mut (),
+        reader: &mut Reader<'_>,
+    ) -> Option<Members> {
+        let c = read_names::take_name(&mut tables.comps, reader)?;
+        if !reader.passes_mark(b'.') {
+            return Some(Members(with_named_member(self.0, c, Some(None))));
+        }
+        let v = read_names::take_name(&mut tables.vers, reader)?;
+        Some(Members(with_named_member(self.0, c, v.map(Some))))
     }
-    let v = read_names::take_name(vers, 64, reader)?;
-    Some(with_named_member(g, c, v.number, v.room))
+
+    ghost takes = { compo_takes };
 }
 
 // compos = cn ["." vn] {"," cn ["." vn]}
-fn take_members(
-    comps: &mut [u8],
-    vers: &mut [u8],
-    reader: &mut Reader<'_>,
-    start: Members,
-) -> Option<Members>
-    requires kept { Kept components comps.old }
-    requires kept_2 { Kept versions vers.old }
-    ensures kept_3 { Kept components comps.new }
-    ensures kept_4 { Kept versions vers.new }
-    ensures answers { Gives (list_of comma compo)
-        (λ r. Each MemberStep (member_state comps.old vers.old start) (member_state comps.new vers.new r)) reader.old reader.new result }
+fn take_members(tables: &mut PairTables, reader: &mut Reader<'_>) -> Option<Option<Composition>>
+    ensures { Gives (list_of comma compo)
+        (λ r. Each MemberStep (member_start (table_of components tables.old.comps.table.rows) (table_of versions tables.old.vers.table.rows))
+        (member_state tables.new r))
+        reader.old reader.new result }
 {
-    let mut g = start;
-    loop {
-        g = take_member(comps, vers, reader, g)?;
-        if !reader.passes_mark(b',') {
-            return Some(g);
-        }
-    }
+    let none = Members(Some(Gathered::none(None)));
+    let members = take_list(none, tables, &mut (), b',', reader)?;
+    Some(members.0)
 }
 
-fn no_named_members(comps: bool, vers: bool) -> Members
-    ensures { (c v : List ℕ) → member_state c v result ≡ member_start (table_of components c) (table_of versions v) comps vers }
+#[tactic(auto, unfolding(crate::specs::MemberSteps::sysvar_made, read_tokens::specs::Entering::both))]
+fn sysvar_request(p: Option<Pair>, m: Option<Composition>) -> Option<SysvarRequest>
+    ensures { result ≡ sysvar_made p m }
 {
-    Members {
-        composition: command_lists::no_members(),
-        comps,
-        vers,
-    }
-}
-
-fn sysvar_request(p: PairTaken, m: Members) -> SysvarRequest
-    ensures { SysvarMade p m result }
-{
-    SysvarRequest {
+    let p = p?;
+    Some(SysvarRequest {
         component: p.component,
         version: p.version,
-        composition: m.composition,
-        room: m.comps & m.vers,
-    }
+        composition: m?,
+    })
 }
 
 // add-sysvar = "sysvar" cn "." vn "=" compos "end", from behind "sysvar".
+#[tactic(auto, using(read_tokens::specs::SequenceLaws::lacking), unfolding(text::specs::Language::add_sysvar, text::specs::Language::compos))]
 pub fn read_sysvar(
-    comps: &mut [u8],
-    vers: &mut [u8],
+    tables: &mut PairTables,
     reader: &mut Reader<'_>,
-) -> Option<SysvarRequest>
-    requires kept { Kept components comps.old }
-    requires kept_2 { Kept versions vers.old }
-    ensures kept_3 { Kept components comps.new }
-    ensures kept_4 { Kept versions vers.new }
-    ensures by_index { (f i : List ℕ) → Gives add_sysvar (SysvarAsked (tables_of comps.old vers.old f i) (tables_of comps.new vers.new f i))
-        reader.old reader.new result }
+) -> Option<Option<SysvarRequest>>
+    ensures by_index { (f i : Rows) → Gives add_sysvar (SysvarAsked (four tables.old f i) (four tables.new f i)) reader.old reader.new result }
 {
-    let p = read_mod::take_pair(comps, vers, reader)?;
+    let p = read_mod::take_pair(tables, reader)?;
     reader.mark(b'=')?;
-    let m = take_members(comps, vers, reader, no_named_members(p.comps, p.vers))?;
+    let m = take_members(tables, reader)?;
     reader.key(Keyword::End)?;
     Some(sysvar_request(p, m))
 }
 
-// A usable component.
-fn take_usable(comps: &mut [u8], reader: &mut Reader<'_>, g: UsableNames) -> Option<UsableNames>
-    requires kept { Kept components comps.old }
-    ensures kept_2 { Kept components comps.new }
-    ensures answers { Gives name (λ r. UsableStep (table_of components comps.old, usable_view g.usable, g.comps)
-        (table_of components comps.new, usable_view r.usable, r.comps)) reader.old reader.new result }
+// ---- a system
+
+// The usable component c.
+#[tactic(auto, unfolding(crate::specs::SysSteps::add_usable, read_tokens::specs::Entering::both))]
+fn with_usable_name(g: Option<Usable>, c: Option<usize>) -> Option<Usable>
+    ensures { option_map usable_view result ≡ both add_usable (option_map usable_view g) c }
 {
-    let c = read_names::take_name(comps, 32, reader)?;
-    Some(UsableNames {
-        usable: command_lists::with_usable(g.usable, c.number),
-        comps: g.comps & c.room,
-    })
+    Some(command_lists::with_usable(g?, c?))
 }
 
-// cns = cn {"," cn}
-fn take_usables(
-    comps: &mut [u8],
-    reader: &mut Reader<'_>,
-    start: UsableNames,
-) -> Option<UsableNames>
-    requires kept { Kept components comps.old }
-    ensures kept_2 { Kept components comps.new }
-    ensures answers { Gives (list_of comma name) (λ r. Each UsableStep (table_of components comps.old, usable_view start.usable, start.comps)
-        (table_of components comps.new, usable_view r.usable, r.comps)) reader.old reader.new result }
-{
-    let mut g = start;
-    loop {
-        g = take_usable(comps, reader, g)?;
-        if !reader.passes_mark(b',') {
-            return Some(g);
-        }
+// Usable components, if there was a place for each name.
+#[derive(Clone, Copy)]
+struct UsableNames(Option<Usable>);
+
+impl Entries for UsableNames {
+    type Table = Filled<32>;
+
+    type Other = ();
+
+    ghost Said = { Name };
+
+    ghost entry = { name };
+
+    ghost step = { λ s s' w. UsableStep (usable_state s.0.table.rows s.2.0) (usable_state s'.0.table.rows s'.2.0) w };
+
+    // A name as with facilities (read_names), put into other tables.
+    fn take(
+        self,
+        comps: &mut Filled<32>,
+        _other: &mut (),
+        reader: &mut Reader<'_>,
+    ) -> Option<UsableNames> {
+        let c = read_names::take_name(comps, reader)?;
+        Some(UsableNames(with_usable_name(self.0, c)))
     }
+
+    ghost takes = { name_takes };
 }
 
 // The version v with its composition m.
-fn with_sys_version(g: SysVersions, v: Taken, m: Members) -> SysVersions
-    ensures { SysWith g v.number m result }
+#[tactic(auto, using(crate::specs::SysLaws::with_all))]
+fn with_sys_version(
+    g: Option<Compositions>,
+    v: Option<usize>,
+    m: Option<Composition>,
+) -> Option<Compositions>
+    ensures { SysWith (option_map compositions_view g) v (option_map composition_view m) (option_map compositions_view result) }
 {
-    SysVersions {
-        compositions: command_lists::with_composition(g.compositions, v.number, m.composition),
-        comps: m.comps,
-        vers: m.vers,
-    }
+    Some(command_lists::with_composition(g?, v?, m?))
 }
 
-// vn "=" compos
-fn take_sys_version(
-    comps: &mut [u8],
-    vers: &mut [u8],
-    reader: &mut Reader<'_>,
-    g: SysVersions,
-) -> Option<SysVersions>
-    requires kept { Kept components comps.old }
-    requires kept_2 { Kept versions vers.old }
-    ensures kept_3 { Kept components comps.new }
-    ensures kept_4 { Kept versions vers.new }
-    ensures answers { Gives sys_version (λ r. SysStep (sys_state comps.old vers.old g) (sys_state comps.new vers.new r))
-        reader.old reader.new result }
-{
-    let v = read_names::take_name(vers, 64, reader)?;
-    reader.mark(b'=')?;
-    let m = take_members(
-        comps,
-        vers,
-        reader,
-        no_named_members(g.comps, g.vers & v.room),
-    )?;
-    Some(with_sys_version(g, v, m))
+// Versions with their compositions, if there was a place for each name.
+#[derive(Clone, Copy)]
+struct SysVersions(Option<Compositions>);
+
+impl Entries for SysVersions {
+    type Table = PairTables;
+
+    type Other = ();
+
+    ghost Said = { Name × NamedMembers };
+
+    ghost entry = { sys_version };
+
+    ghost step = { λ s s' x. SysStep (sys_state s.0 s.2.0) (sys_state s'.0 s'.2.0) x };
+
+    // vn "=" compos; the same form as an entry of "mod", put into other tables.
+    #[tactic(auto, using(read_tokens::specs::SequenceLaws::lacking), unfolding(text::specs::Language::sys_version, text::specs::Language::compos))]
+    fn take(
+        self,
+        tables: &mut PairTables,
+        _other: &mut (),
+        reader: &mut Reader<'_>,
+    ) -> Option<SysVersions> {
+        let v = read_names::take_name(&mut tables.vers, reader)?;
+        reader.mark(b'=')?;
+        let m = take_members(tables, reader)?;
+        Some(SysVersions(with_sys_version(self.0, v, m)))
+    }
+
+    ghost takes = { sys_version_takes };
 }
 
-// vn "=" compos {";" vn "=" compos}
-fn take_sys_versions(
-    comps: &mut [u8],
-    vers: &mut [u8],
-    reader: &mut Reader<'_>,
-    start: SysVersions,
-) -> Option<SysVersions>
-    requires kept { Kept components comps.old }
-    requires kept_2 { Kept versions vers.old }
-    ensures kept_3 { Kept components comps.new }
-    ensures kept_4 { Kept versions vers.new }
-    ensures answers { Gives (list_of semicolon sys_version)
-        (λ r. Each SysStep (sys_state comps.old vers.old start) (sys_state comps.new vers.new r)) reader.old reader.new result }
+#[tactic(auto, unfolding(crate::specs::SysSteps::sys_made, read_tokens::specs::Entering::both))]
+fn sys_request(c: Option<usize>, u: Option<Usable>, v: Option<Compositions>) -> Option<SysRequest>
+    ensures { result ≡ sys_made c u v }
 {
-    let mut g = start;
-    loop {
-        g = take_sys_version(comps, vers, reader, g)?;
-        if !reader.passes_mark(b';') {
-            return Some(g);
-        }
-    }
-}
-
-fn no_usable_names(comps: bool) -> UsableNames
-    ensures { UsableStart comps result }
-{
-    UsableNames {
-        usable: command_lists::no_usable(),
-        comps,
-    }
-}
-
-fn no_sys_versions(comps: bool) -> SysVersions
-    ensures { (c v : List ℕ) → sys_state c v result ≡ sys_start (table_of components c) (table_of versions v) comps }
-{
-    SysVersions {
-        compositions: command_lists::no_compositions(),
-        comps,
-        vers: true,
-    }
-}
-
-fn sys_request(c: Taken, u: UsableNames, v: SysVersions) -> SysRequest
-    ensures { SysMade c.number u v result }
-{
-    SysRequest {
-        component: c.number,
-        usable: u.usable,
-        versions: v.compositions,
-        room: v.comps & v.vers,
-    }
+    Some(SysRequest {
+        component: c?,
+        usable: u?,
+        versions: v?,
+    })
 }
 
 // add-sys = "sys" cn "use" cns ";" vn "=" compos {";" vn "=" compos} "end", from behind "sys".
-pub fn read_sys(comps: &mut [u8], vers: &mut [u8], reader: &mut Reader<'_>) -> Option<SysRequest>
-    requires kept { Kept components comps.old }
-    requires kept_2 { Kept versions vers.old }
-    ensures kept_3 { Kept components comps.new }
-    ensures kept_4 { Kept versions vers.new }
-    ensures by_index { (f i : List ℕ) → Gives add_sys (SysAsked (tables_of comps.old vers.old f i) (tables_of comps.new vers.new f i))
-        reader.old reader.new result }
+#[tactic(auto, using(crate::specs::SysLaws::lacking_use), unfolding(text::specs::Language::add_sys, text::specs::Language::names))]
+pub fn read_sys(tables: &mut PairTables, reader: &mut Reader<'_>) -> Option<Option<SysRequest>>
+    ensures by_index { (f i : Rows) → Gives add_sys (SysAsked (four tables.old f i) (four tables.new f i)) reader.old reader.new result }
 {
-    let c = read_names::take_name(comps, 32, reader)?;
+    let c = read_names::take_name(&mut tables.comps, reader)?;
     reader.key(Keyword::Use)?;
-    let u = take_usables(comps, reader, no_usable_names(c.room))?;
+    let unusable = UsableNames(Some(Gathered::none(())));
+    let u = take_list(unusable, &mut tables.comps, &mut (), b',', reader)?;
     reader.mark(b';')?;
-    let v = take_sys_versions(comps, vers, reader, no_sys_versions(u.comps))?;
+    let none = SysVersions(Some(Gathered::none(Gathered::none(None))));
+    let v = take_list(none, tables, &mut (), b';', reader)?;
     reader.key(Keyword::End)?;
-    Some(sys_request(c, u, v))
+    Some(sys_request(c, u.0, v.0))
 }

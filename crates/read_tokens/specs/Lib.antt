@@ -2,10 +2,9 @@ pub mod Readers
 pub mod Ahead
 pub mod Entering
 pub mod Steps
-pub mod Asked
-pub mod ModSteps
 pub mod Requested
 pub mod Growth
+pub mod BothLaws
 pub mod TokenLaws
 pub mod TakeLaws
 pub mod ListLaws
@@ -14,6 +13,3 @@ pub mod SequenceLaws
 pub mod GrowthLaws
 pub mod ProductionLaws
 pub mod FacilityLaws
-pub mod FourLaws
-pub mod ModLaws
-pub mod PairLaws

@@ -1,5 +1,5 @@
 -- The productions of the language: a law for each way out of the code.
-use Rattle.std.specs.Prelude.{Bool, None, Option, Some, false, true, List, [], ◌≡◌, refl, ◌≤◌, ℕ, drop, length}
+use Rattle.std.specs.Prelude.{Bool, None, Option, Some, false, true, List, [], ◌≡◌, refl, ℕ, drop}
 use Rattle.std.proofs.Math.Option.{none, some}
 use Rattle.std.proofs.Common.{◌∙◌, ap, sym, arith}
 use Rattle.model.specs.Maps.{and_then}
@@ -21,10 +21,11 @@ requires_key : key_at 14 ≡ key "requires"
 unfolding key_at key name_at keywords bytes
 requires_key = refl
 
--- ---- what stands next
+pub end_key : key_at 3 ≡ key "end"
+unfolding key_at key name_at keywords bytes
+end_key = refl
 
-pub pass_inside : (k : Token) (t : Text) (at e : ℕ) (b : Bool) → Got (ahead k) (Told b) t at e → e ≤ length t
-pass_inside k t at e b g = g.inside
+-- ---- what stands next
 
 -- what was passed
 pub passed : (k : Token) (t : Text) (at e : ℕ) (b : Bool) → Got (ahead k) (Told b) t at e → ahead k (drop at t) ≡ some (b, drop e t)

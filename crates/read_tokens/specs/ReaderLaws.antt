@@ -1,5 +1,5 @@
 -- Readers one after the other in one text: what was read from behind a reader is read of the text that the first one had.
-use Rattle.std.specs.Prelude.{Bool, None, Option, Some, false, true, [], ◌∷◌, ◌≡◌, refl, ◌<◌, ◌≤◌, ℕ, drop, length}
+use Rattle.std.specs.Prelude.{Bool, None, Option, false, true, [], ◌∷◌, ◌≡◌, refl, ◌<◌, ◌≤◌, ℕ, drop, length}
 use Rattle.std.proofs.Common.{◌∙◌, ap, le_refl, subst, sym, arith}
 use Rattle.std.proofs.Math.Option.{none, some}
 use Rattle.text.specs.Bytes.{Text}
@@ -8,9 +8,9 @@ use Rattle.text.specs.Tokens.{Token}
 use Rattle.text_laws.specs.Takes.{Takes}
 use Rattle.read_tokens.specs.Ahead.{Gives, LeadsBy, Passes}
 use Rattle.read_tokens.specs.ListLaws.{leads_start, list_broken, list_cons, list_none, list_one}
-use Rattle.read_tokens.specs.Readers.{Answers, Any, Got, Told}
+use Rattle.read_tokens.specs.Readers.{Any, Got, Told}
 use Rattle.read_tokens.specs.Steps.{Each}
-use Rattle.read_tokens.specs.TokenLaws.{ahead_no, ahead_yes, answer_no, answer_yes, got_less}
+use Rattle.read_tokens.specs.TokenLaws.{ahead_no, ahead_yes, got_less}
 use Rattle.read_tokens.specs.declared.reader.Reader.{Reader}
 
 -- ---- the same text
@@ -25,18 +25,6 @@ module _ {A : Type 0} (p : Production A) (r s : Reader) (q : s.text ≡ r.text) 
 
   pub none_on : (a : ℕ) → p (drop a s.text.now) ≡ none → p (drop a r.text.now) ≡ none
   none_on a n = subst (λ (t : Text). p (drop a t) ≡ none) same_text n
-
-  pub answers_on : (Q : A → Type 0) (a e : ℕ) (there : Bool) → Answers p Q s.text.now a there e → Answers p Q r.text.now a there e
-  answers_on Q a e there g = subst (λ (t : Text). Answers p Q t a there e) same_text g
-
--- what a reader gives, as an answer at a position of its text
-pub gave : {A B : Type 0} (p : Production A) (R : B → A → Type 0) (r s : Reader) (x : B) → Gives p R r s (Some x)
-    → Answers p (R x) r.text.now r.at true s.at
-gave p R r s x g = answer_yes p (R x) r.text.now r.at s.at g.0
-
-pub gave_none : {A B : Type 0} (p : Production A) (R : B → A → Type 0) (r s : Reader) → Gives p R r s None
-    → (Q : A → Type 0) (z : ℕ) → Answers p Q r.text.now r.at false z
-gave_none p R r s g Q z = answer_no p Q r.text.now r.at z g
 
 -- nothing is given where nothing is read
 pub gives_none : {A B : Type 0} (p : Production A) (R : B → A → Type 0) (r s : Reader) (o : Option B) → o ≡ None → p (drop r.at r.text.now) ≡ none

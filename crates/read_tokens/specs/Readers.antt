@@ -1,11 +1,10 @@
 -- What the code answers that reads from a position of the text: it stands for a reader of crate text, `p`.
-use Rattle.std.specs.Prelude.{Bool, false, true, ◌≡◌, ◌<◌, ◌≤◌, ℕ, drop, length}
-use Rattle.std.proofs.Math.Option.{none, some}
+use Rattle.std.specs.Prelude.{Bool, ◌≡◌, ◌≤◌, ℕ, drop, length}
+use Rattle.std.proofs.Math.Option.{some}
 use Rattle.text.specs.Bytes.{Text, keywords}
 use Rattle.text.specs.Language.{Reader}
 use Rattle.text.specs.Tables.{name_at}
 use Rattle.text.specs.Tokens.{Token, word}
-use Rattle.words.specs.Reading.{part}
 
 -- from `at` on p reads a value up to position e, and R holds of the value
 pub record Got {A : Type 0} (p : Reader A) (R : A → Type 0) (t : Text) (at e : ℕ) : Type 0 where
@@ -15,27 +14,12 @@ pub record Got {A : Type 0} (p : Reader A) (R : A → Type 0) (t : Text) (at e :
   pub from : at ≤ e
   pub inside : e ≤ length t
 
--- it reads one if `there` says so, and else none
-pub record Answers {A : Type 0} (p : Reader A) (R : A → Type 0) (t : Text) (at : ℕ) (there : Bool) (e : ℕ) : Type 0 where
-  pub yes : there ≡ true → Got p R t at e
-  pub no : there ≡ false → p (drop at t) ≡ none
-
 -- nothing more is said of the value
 pub record Any {A : Type 0} (x : A) : Type 0 where
 
 -- the value is this flag
 pub record Told (b : Bool) (x : Bool) : Type 0 where
   pub is : x ≡ b
-
--- a part of the text, of a byte at least
-pub record Span (t : Text) (a e : ℕ) : Type 0 where
-  pub some_bytes : a < e
-  pub inside : e ≤ length t
-
--- the value is the part of the text from a up to e
-pub record PartOf (t : Text) (a e : ℕ) (w : Text) : Type 0 where
-  pub is : w ≡ part t a e
-  pub span : Span t a e
 
 -- ---- tokens
 

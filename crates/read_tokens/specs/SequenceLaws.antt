@@ -1,13 +1,17 @@
 -- Productions read one after the other, by a reader that goes on from where it stands.
-use Rattle.std.specs.Prelude.{Bool, ◌≡◌, ◌≤◌, drop, length}
+use Rattle.std.specs.Prelude.{Bool, List, ◌≡◌, ◌≤◌, drop, length}
 use Rattle.std.proofs.Math.Option.{none, some}
 use Rattle.std.proofs.Common.{◌∙◌, arith, le_refl, refl}
 use Rattle.std.proofs.Math.Path.{ap, subst, sym}
 use Rattle.model.specs.Maps.{and_then}
-use Rattle.text.specs.Language.{Reader as Production, ◌>>=◌, ◌>>◌, ahead, give, want}
+use Rattle.text.specs.Language.{Reader as Production, ◌>>=◌, ◌>>◌, ahead, give, key, want}
 use Rattle.text.specs.Tokens.{Token}
 use Rattle.read_tokens.specs.Ahead.{Passes}
-use Rattle.read_tokens.specs.Readers.{Any, Got, Told}
+use Rattle.read_tokens.specs.ListLaws.{each_on}
+use Rattle.read_tokens.specs.ProductionLaws.{end_key}
+use Rattle.read_tokens.specs.ReaderLaws.{gives_none}
+use Rattle.read_tokens.specs.Readers.{Any, Got, Told, key_at}
+use Rattle.read_tokens.specs.Steps.{Each}
 use Rattle.read_tokens.specs.declared.reader.Reader.{Reader}
 
 -- the production p reads a value of which R holds, and the reader s stands behind it
@@ -71,6 +75,14 @@ pub give_read : {A : Type 0} {Q : A → Type 0} (x : A) (r : Reader) → Q x →
 unfolding give
 give_read x r q = (record { value = x; is = refl; took = q; from = le_refl _; inside = r.inside }, refl)
 
+-- the entries of a list, of states seen by f
+pub read_seen : {S T A : Type 0} (f : S → T) (R : T → T → A → Type 0) (p : Production (List A)) (s s'' : S) (r z : Reader)
+    → Read p (Each (λ s s' x. R (f s) (f s') x) s s'') r z → Read p (Each R (f s) (f s'')) r z
+read_seen f R p s s'' r z g = (
+  record { value = g.0.value; is = g.0.is; took = each_on f R s s'' g.0.value g.0.took; from = g.0.from; inside = g.0.inside },
+  g.1,
+)
+
 -- ---- a token by its name
 
 module _ {j k : Token} (e : j ≡ k) (r : Reader) where
@@ -82,3 +94,12 @@ module _ {j k : Token} (e : j ≡ k) (r : Reader) where
 
   pub as_ahead : (s : Reader) {b : Bool} → Passes j r s b → Read (ahead k) (Told b) r s
   as_ahead s {b = b} g = subst (λ i. Read (ahead i) (Told b) r s) e g
+
+pub end_read : (r s : Reader) → Read (want (key_at 3)) Any r s → Read (want (key "end")) Any r s
+end_read r s g = as_named end_key r s g
+
+pub end_lacks : (r : Reader) → Lacks (want (key_at 3)) r → Lacks (want (key "end")) r
+end_lacks r n = not_named end_key r n
+
+-- nothing is given where one of the productions lacks
+pub ruleset lacking = (gives_none, first_lacks, before_lacks, next_lacks, behind_lacks, end_read, end_lacks)

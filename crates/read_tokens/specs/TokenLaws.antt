@@ -1,19 +1,19 @@
 -- Tokens read from a position: a law for each way out of the code.
-use Rattle.std.specs.Prelude.{Bool, None, Option as Found, Some, false, true, ◌≡◌, refl, ◌+◌, ◌<◌, ◌≤◌, ℕ}
+use Rattle.std.specs.Prelude.{Bool, [], None, Option as Found, Some, false, true, ◌≡◌, refl, ◌+◌, ◌<◌, ◌≤◌, ℕ}
 use Rattle.std.proofs.Common.{inl, inr, ◌∙◌, length-drop}
 use Rattle.std.proofs.Math.Option.{Option, some-injective, none, some}
 use Rattle.std.proofs.Math.Path.{ap, subst, sym}
 use native.Mathlib.Omega.{arith}
-use Rattle.std.proofs.Math.ListN.{drop, length}
+use Rattle.std.proofs.Math.ListN.{drop, get_or-eq_default, length}
 use Rattle.model.specs.Maps.{only_if}
-use Rattle.sets.specs.TestLaws.{=?-in, =?-out, bool?, clash, fails, if-false, if-true, iff→≡}
+use Rattle.sets.specs.TestLaws.{<?_no, <?_out, =?-in, =?-out, bool?, fails, if-false, if-true, iff→≡}
 use Rattle.model_laws.specs.MapLaws.{no_some}
 use Rattle.words.specs.KeywordLaws.{keyword_length}
 use Rattle.words.specs.Keywords.{keyword_count}
 use Rattle.words.specs.TokenLaws.{mark_within, part_length, quoted_within}
 use Rattle.words.specs.WordLaws.{word_ends, word_next, word_none, word_open}
 use Rattle.text_laws.specs.TextLaws.{same_out, same_sym}
-use Rattle.sets.specs.Tests.{◌=?◌}
+use Rattle.sets.specs.Tests.{◌<?◌, ◌=?◌}
 use Rattle.text.specs.Bytes.{Text, keywords, name_word, same}
 use Rattle.text.specs.Language.{Reader, ahead, ahead_of, imp, name, name_of, quoted_of, want, want_of}
 use Rattle.text.specs.Tables.{name_at}
@@ -25,15 +25,9 @@ use Rattle.words.specs.Reading.{Reads, Skips, next_of, part, word_at, word_of}
 use Rattle.words.specs.declared.Token.{Token}
 use Rattle.words.specs.declared.Token.TheVariants.{Word, Quoted, Mark, End}
 use Rattle.read_tokens.specs.Ahead.{IsWord}
-use Rattle.read_tokens.specs.Readers.{Answers, Any, Got, key_at}
+use Rattle.read_tokens.specs.Readers.{Any, Got, key_at}
 
--- ---- answers
-
-pub answer_no : {A : Type 0} (p : Reader A) (R : A → Type 0) (t : Text) (at e : ℕ) → p (drop at t) ≡ none → Answers p R t at false e
-answer_no p R t at e h = record { yes = λ q. clash q refl; no = λ q. h }
-
-pub answer_yes : {A : Type 0} (p : Reader A) (R : A → Type 0) (t : Text) (at e : ℕ) → Got p R t at e → Answers p R t at true e
-answer_yes p R t at e g = record { yes = λ q. g; no = λ q. clash refl q }
+-- ---- where a reader stands
 
 -- a reader that takes a byte at least reads on
 pub got_less : {A : Type 0} (p : Reader A) (R : A → Type 0) (t : Text) (at e : ℕ) → Takes 1 p → Got p R t at e → at ≤ length t → at < e
@@ -44,10 +38,16 @@ got_less p R t at e k g h =
 
 -- ---- keywords
 
--- a word too long for a keyword, a way out of is_key
-pub not_key_long : (w : Text) (k : ℕ) → k < keyword_count → 32 < length w → false ≡ same w (name_at keywords k)
-not_key_long w k l m =
-    sym (fails _ (λ s. let q = ap length (same_out _ _ s) in let j = keyword_length k l in absurd (omega arith)))
+key_length : (k : ℕ) → length (name_at keywords k) ≤ 32
+unfolding name_at keywords
+key_length k = elim (bool? (k <? keyword_count)) [
+  | inl b ↦ keyword_length k (<?_out _ _ b)
+  | inr b ↦ subst (λ (w : Text). length w ≤ 32) (sym (get_or-eq_default keywords [] (<?_no _ _ b))) (omega arith)
+]
+
+-- a word too long for a keyword
+key_long : (w : Text) (k : ℕ) → 32 < length w → same w (name_at keywords k) ≡ false
+key_long w k m = fails _ (λ s. let q = ap length (same_out _ _ s) in let j = key_length k in absurd (omega arith))
 
 same_turn : (x y : Text) → same x y ≡ same y x
 same_turn x y = iff→≡ _ _ (same_sym x y) (same_sym y x)
@@ -196,7 +196,8 @@ module _ (t : Text) (at : ℕ) (s : Found ℕ) (g : Skips t at s) where
           let e = word_ends t at s g a q w p in
           record {
             value = tt;
-            is = key_only k ∙ ap (λ (x : Bool). only_if x (tt, drop (a + length w) t)) (ap (λ (i : ℕ). same w (name_at keywords i)) (sym z) ∙ sym h ∙ y);
+            is = key_only k
+                ∙ ap (λ (x : Bool). only_if x (tt, drop (a + length w) t)) (ap (λ (i : ℕ). same w (name_at keywords i)) (sym z) ∙ sym h ∙ y);
             took = record {};
             from = omega arith;
             inside = e.1;
@@ -204,7 +205,11 @@ module _ (t : Text) (at : ℕ) (s : Found ℕ) (g : Skips t at s) where
 
       pub key_other : (k j : ℕ) → j ≡ k → (b : Bool) → b ≡ same w (name_at keywords j) → b ≡ false → want (key_at k) (drop at t) ≡ none
       unfolding only_if
-      key_other k j z b h y = key_only k ∙ ap (λ (x : Bool). only_if x (tt, drop (a + length w) t)) (ap (λ (i : ℕ). same w (name_at keywords i)) (sym z) ∙ sym h ∙ y)
+      key_other k j z b h y =
+          key_only k ∙ ap (λ (x : Bool). only_if x (tt, drop (a + length w) t)) (ap (λ (i : ℕ). same w (name_at keywords i)) (sym z) ∙ sym h ∙ y)
+
+    pub key_too_long : (k : ℕ) → 32 < length w → want (key_at k) (drop at t) ≡ none
+    key_too_long k m = key_other (λ e. absurd (omega arith)) k k refl false (sym (key_long w k m)) refl
 
 -- ---- what stands next, read only if it is there
 
@@ -212,7 +217,8 @@ ahead_there : (k : tokens.Token) (t u : Text) (n : Next) → want_of k n ≡ som
 unfolding want_of ahead_of only_if
 ahead_there k t u (token j v) e =
     elim (bool? (is_token k j)) [
-      | inl b ↦ ap some (if-true _ _ _ b ∙ ap (λ (z : Text). (true, z)) (ap (λ (y : Unit {0} × Text). y.1) (some-injective _ _ (sym (only_yes b) ∙ e))))
+      | inl b ↦ ap some (if-true _ _ _ b
+          ∙ ap (λ (z : Text). (true, z)) (ap (λ (y : Unit {0} × Text). y.1) (some-injective _ _ (sym (only_yes b) ∙ e))))
       | inr b ↦ no_some (sym (only_not b) ∙ e)
     ]
   where
@@ -241,3 +247,13 @@ ahead_yes k t at e g = ahead_there k (drop at t) (drop e t) _ g.is
 pub ahead_no : (k : tokens.Token) (t : Text) (at : ℕ) → want k (drop at t) ≡ none → ahead k (drop at t) ≡ some (false, drop at t)
 unfolding want ahead
 ahead_no k t at e = ahead_away k (drop at t) _ e
+
+-- ---- nothing is there
+
+pub ruleset no_name = (name_open, name_none, name_other)
+
+pub ruleset no_key = (key_open, key_none, key_other, key_too_long)
+
+pub ruleset no_imp = (imp_bad, imp_none)
+
+pub ruleset no_mark = (mark_bad, mark_none, mark_other)

@@ -3,16 +3,20 @@
 #![tactic(auto)]
 
 ghost use Rattle.std.specs.Prelude.{◌≡◌, ◌+◌, ◌<◌, ◌≤◌, drop, length, option_map};
-ghost use Rattle.text.specs.Bytes.{keywords, same};
-ghost use Rattle.text.specs.Tables.{name_at};
+ghost use Rattle.text.specs.Bytes.{keywords};
 ghost use Rattle.text.specs.Language.{imp, name, want};
 ghost use Rattle.text.specs.Tokens.{mark};
 ghost use Rattle.words.specs.Keywords.{keyword_count};
 ghost use Rattle.read_tokens.specs.Readers.{Any, key_at};
 ghost use Rattle.read_tokens.specs.Ahead.{Ends, Gives, IsWord, Passes, keyword_number};
 
+use command_lists::{Composition, Compositions, Numbers, Sets, Usable};
+use names::Filled;
+
+mod list;
 mod reader;
 
+pub use list::{Entries, take_list};
 pub use reader::Reader;
 
 // The keywords, in the order of their table (words/specs/Keywords.antt).
@@ -49,54 +53,13 @@ pub enum Keyword {
 }
 
 impl Keyword {
-    // Its number among the keywords.
+    // Its number among the keywords. (That of a variant is given by `as` alone.)
     fn number(self) -> usize
         ensures number { result ≡ keyword_number self }
         ensures small { result < keyword_count }
     {
-        match self {
-            Keyword::Supplies => 0,
-            Keyword::Needs => 1,
-            Keyword::Choice => 2,
-            Keyword::End => 3,
-            Keyword::Standard => 4,
-            Keyword::Undefined => 5,
-            Keyword::Unused => 6,
-            Keyword::WhereUsed => 7,
-            Keyword::In => 8,
-            Keyword::Out => 9,
-            Keyword::Quit => 10,
-            Keyword::Spec => 11,
-            Keyword::Provides => 12,
-            Keyword::Std => 13,
-            Keyword::Requires => 14,
-            Keyword::AllOf => 15,
-            Keyword::Mod => 16,
-            Keyword::Impl => 17,
-            Keyword::Sys => 18,
-            Keyword::Use => 19,
-            Keyword::DelSpec => 20,
-            Keyword::DelMod => 21,
-            Keyword::DelSys => 22,
-            Keyword::Modvar => 23,
-            Keyword::Sysvar => 24,
-            Keyword::DelModvar => 25,
-            Keyword::DelSysvar => 26,
-            Keyword::Parts => 27,
-        }
+        self as usize
     }
-}
-
-// Whether a word is the keyword with the number k.
-fn is_key(word: &[u8], k: usize) -> bool
-    requires word_nonzero { 0 < length word.now }
-    requires k_lt_keyword_count { k < keyword_count }
-    ensures { result ≡ same word.now (name_at keywords k) }
-{
-    if 32 < word.len() {
-        return false;
-    }
-    words::is_keyword(word, k)
 }
 
 // ---- tokens
@@ -128,6 +91,7 @@ impl<'a> Reader<'a> {
     }
 
     // A name.
+    #[tactic(auto, using(crate::specs::TokenLaws::no_name))]
     pub fn name(&mut self) -> Option<&'a [u8]>
         ensures { Gives name IsWord self.old self.new (option_map (λ w. w.now) result) }
     {
@@ -140,7 +104,8 @@ impl<'a> Reader<'a> {
         Some(word)
     }
 
-    // An implementation: the word in its quotes. The position is then the one behind the closing quote.
+    // An implementation: the word in its quotes. The position is then the one behind the closing quote. (`?` takes no variant of a token.)
+    #[tactic(auto, using(crate::specs::TokenLaws::no_imp))]
     pub fn imp(&mut self) -> Option<&'a [u8]>
         ensures { Gives imp IsWord self.old self.new (option_map (λ w. w.now) result) }
     {
@@ -151,7 +116,8 @@ impl<'a> Reader<'a> {
         Some(&self.text[start..end])
     }
 
-    // The position behind the mark c, if this comes next.
+    // The position behind the mark c, if this comes next. (`?` takes no variant of a token.)
+    #[tactic(auto, using(crate::specs::TokenLaws::no_mark))]
     fn mark_end(&self, c: u8) -> Option<usize>
         ensures { Ends (want (mark c)) self.now result }
     {
@@ -165,12 +131,13 @@ impl<'a> Reader<'a> {
     }
 
     // The position behind the keyword k, if this comes next.
+    #[tactic(auto, using(crate::specs::TokenLaws::no_key))]
     fn key_end(&self, k: Keyword) -> Option<usize>
         ensures { Ends (want (key_at (keyword_number k))) self.now result }
     {
         let start = words::next_start(self.text, self.at)?;
         let word = words::word(self.text, start);
-        if word.is_empty() || !is_key(word, k.number()) {
+        if word.is_empty() || 32 < word.len() || !words::is_keyword(word, k.number()) {
             return None;
         }
         Some(start + word.len())
@@ -192,7 +159,9 @@ impl<'a> Reader<'a> {
         Some(())
     }
 
-    // Whether the mark c comes next, which is then passed.
+    // Whether the mark c comes next, which is then passed. (One function for this and the next would be told the end of the token, and
+    // ask that it stands in the text.)
+    #[tactic(auto, using(crate::specs::ReaderLaws::passes_yes))]
     pub fn passes_mark(&mut self, c: u8) -> bool
         ensures { Passes (mark c) self.old self.new result }
     {
@@ -204,6 +173,8 @@ impl<'a> Reader<'a> {
     }
 
     // Whether the keyword k comes next, which is then passed.
+    // As with passes_mark: one function for the two would ask that the end of the token stands in the text.
+    #[tactic(auto, using(crate::specs::ReaderLaws::passes_yes))]
     pub fn passes_key(&mut self, k: Keyword) -> bool
         ensures { Passes (key_at (keyword_number k)) self.old self.new result }
     {
@@ -217,74 +188,40 @@ impl<'a> Reader<'a> {
 
 // ---- what is collected: names put into a table
 
-// A name that was read and put into its table: its place, or 0 where there was no room for it.
+// The tables that the names of a component and of a version go into.
 #[derive(Clone, Copy)]
-pub struct Taken {
-    pub number: usize,
-    pub room: bool,
-}
-
-// ---- facilities
-
-// Facilities that were read: the set with their numbers, and whether there was room.
-#[derive(Clone, Copy)]
-pub struct Facilities {
-    pub set: u64,
-    pub room: bool,
+pub struct PairTables {
+    pub comps: Filled<32>,
+    pub vers: Filled<64>,
 }
 
 // ---- a specification
 
-// Versions with the facilities that each requires; whether one, and another, carries "std", and which; and whether there was room for
-// the names of versions (`vers`) and of facilities (`facs`).
-#[derive(Clone, Copy)]
-pub struct SpecVersions {
-    pub sets: command_lists::Sets,
-    pub found: bool,
-    pub twice: bool,
-    pub standard: usize,
-    pub vers: bool,
-    pub facs: bool,
-}
-
-// What "spec" asks for: by the numbers in the tables with its new names, if there was room for them.
+// What "spec" asks for: by the numbers in the tables with its new names.
 #[derive(Clone, Copy)]
 pub struct SpecRequest {
     pub component: usize,
     pub provided: u64,
-    pub versions: command_lists::Sets,
+    pub versions: Sets,
     pub standard: usize,
-    pub room: bool,
 }
 
 // ---- a module
-
-// Versions with their implementations, and whether there was room for the names of versions (`vers`) and for the implementations
-// (`impls`).
-#[derive(Clone, Copy)]
-pub struct ModVersions {
-    pub numbers: command_lists::Numbers,
-    pub vers: bool,
-    pub impls: bool,
-}
 
 // What "mod" asks for.
 #[derive(Clone, Copy)]
 pub struct ModRequest {
     pub component: usize,
-    pub versions: command_lists::Numbers,
-    pub room: bool,
+    pub versions: Numbers,
 }
 
 // ---- a component with a version
 
-// A component and a version: their numbers, and whether there was room for each.
+// A component and a version by their numbers; that of read_command has their names.
 #[derive(Clone, Copy)]
-pub struct PairTaken {
+pub struct Pair {
     pub component: usize,
     pub version: usize,
-    pub comps: bool,
-    pub vers: bool,
 }
 
 // What "modvar" asks for.
@@ -294,50 +231,24 @@ pub struct ModvarRequest {
     pub version: usize,
     pub required: u64,
     pub implementation: usize,
-    pub room: bool,
 }
 
 // ---- a composition
-
-// Members, and whether there was room for the names of components (`comps`) and of versions (`vers`).
-#[derive(Clone, Copy)]
-pub struct Members {
-    pub composition: command_lists::Composition,
-    pub comps: bool,
-    pub vers: bool,
-}
 
 // What "sysvar" asks for.
 #[derive(Clone, Copy)]
 pub struct SysvarRequest {
     pub component: usize,
     pub version: usize,
-    pub composition: command_lists::Composition,
-    pub room: bool,
+    pub composition: Composition,
 }
 
 // ---- a system
-
-// Usable components, and whether there was room for their names.
-#[derive(Clone, Copy)]
-pub struct UsableNames {
-    pub usable: command_lists::Usable,
-    pub comps: bool,
-}
-
-// Versions with their compositions, and whether there was room for the names of components (`comps`) and of versions (`vers`).
-#[derive(Clone, Copy)]
-pub struct SysVersions {
-    pub compositions: command_lists::Compositions,
-    pub comps: bool,
-    pub vers: bool,
-}
 
 // What "sys" asks for.
 #[derive(Clone, Copy)]
 pub struct SysRequest {
     pub component: usize,
-    pub usable: command_lists::Usable,
-    pub versions: command_lists::Compositions,
-    pub room: bool,
+    pub usable: Usable,
+    pub versions: Compositions,
 }

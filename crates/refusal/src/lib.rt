@@ -61,7 +61,7 @@ pub enum Refusal {
 }
 
 impl Refusal {
-    // The question's number.
+    // The question's number, as the C interface answers it.
     pub fn number(self) -> u8
         ensures { result ≡ number self }
     {
@@ -96,6 +96,7 @@ impl Refusal {
 }
 
 // "The first no gives the number; without one the call is accepted": the answer, 0 where it is accepted.
+// The answer is one parameter, a Result.
 pub fn code(answer: Result<(), Refusal>) -> u8
     ensures { result ≡ code answer }
 {

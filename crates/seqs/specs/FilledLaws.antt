@@ -1,6 +1,6 @@
 -- Laws of a slice whose start was written: writes follow one another.
 use mathlib.Core.List.{List, [], ◌++◌, ◌∷◌, append_assoc}
-use Rattle.std.proofs.Common.{◌∙◌, sym, length-drop}
+use Rattle.std.proofs.Common.{sym, length-drop}
 use Rattle.std.specs.Prelude.{◌≡◌, ◌+◌, ◌-◌, ◌<◌, ◌≤◌, suc, ℕ, get_or, set, take}
 use Rattle.std.proofs.Math.Path.{refl}
 use Rattle.std.proofs.Math.Numerals.{add-one}
@@ -8,7 +8,6 @@ use native.Mathlib.Omega.{arith}
 use Rattle.std.proofs.Math.ListN.{drop, length, length-append}
 use Rattle.std.proofs.Math.Seq.{drop_at, drop-cons, drop-drop, set_at, take_at}
 use Rattle.seqs.specs.Filled.{filled}
-use Rattle.seqs.specs.RestLaws.{rest_filled}
 
 module _ {A : Type 0} where
   pub filled-length : (p old : List A) → length p ≤ length old → length (filled p old) ≡ length old
@@ -47,9 +46,3 @@ module _ {A : Type 0} where
         length-append,
         append_assoc,
       )
-
-  -- the rest from a on is lent to a writer that leaves ys there: w, and then what the rest held
-  pub filled_rest : (p w old ys : List A) (a : ℕ) → a ≡ length p
-      → ys ≡ filled w (take (length (filled p old) - a) (drop a (filled p old)))
-      → take a (filled p old) ++ (ys ++ drop (length (filled p old) - a) (drop a (filled p old))) ≡ filled (p ++ w) old
-  filled_rest p w old ys a e h = rest_filled (filled p old) w ys a h ∙ filled_at p w old a e

@@ -4,7 +4,6 @@ use Rattle.std.proofs.Common.{◌∙◌, le_refl, drop_of_length-le, length-drop
 use Rattle.std.specs.Prelude.{◌≡◌, ◌+◌, ◌-◌, ℕ, drop, length}
 use Rattle.std.proofs.Math.Path.{ap}
 use Rattle.std.proofs.Math.ListN.{take}
-use Rattle.std.proofs.Math.Seq.{take-length}
 use Rattle.seqs.specs.Filled.{filled}
 
 module _ {A : Type 0} where
@@ -22,14 +21,3 @@ module _ {A : Type 0} where
   unfolding filled
   rest_filled xs w ys a e =
       rest_back xs ys a ∙ ap (λ (l : List A). take a xs ++ l) (e ∙ rw (rest_is xs a, drop-drop))
-
-  -- the same of what a copy of the word to the start of the rest gives
-  pub rest_copied : (xs w ys : List A) (a : ℕ) → ys ≡ take (length w) w ++ drop (length w) (take (length xs - a) (drop a xs))
-      → take a xs ++ (ys ++ drop (length xs - a) (drop a xs)) ≡ take a xs ++ (w ++ drop (a + length w) xs)
-  unfolding filled
-  rest_copied xs w ys a e = rest_filled xs w ys a (e ∙ rw take-length)
-
-  -- what `seqs::copy` says, as `rest_copied` takes it
-  pub copied_whole : (w old new : List A) → new ≡ filled w old → new ≡ take (length w) w ++ drop (length w) old
-  unfolding filled
-  copied_whole w old new e = e ∙ rw take-length

@@ -1,5 +1,5 @@
 -- What the program prints, whether text and listing fit or not.
-use Rattle.std.specs.Prelude.{Err, List, Ok, Result, [], ◌++◌, ◌∷◌, ◌<◌, ◌≤◌, ℕ}
+use Rattle.std.specs.Prelude.{Err, List, Ok, Result, ◌++◌, ◌<◌, ◌≤◌, ℕ}
 use Rattle.std.proofs.Math.Logic.{inl, inr}
 use Rattle.std.proofs.Common.{◌∙◌}
 use Rattle.std.proofs.Math.Path.{◌≡◌, ap, refl, sym}
@@ -15,11 +15,6 @@ use Rattle.svcd.specs.Reached.{answer_of, length_of}
 use Rattle.text.specs.Bytes.{Text, bytes}
 use Rattle.text.specs.LentSlice.{fits_in, listing_in, prints, program_bytes, slice_after}
 use Rattle.text.specs.Session.{session}
-
-pub five_bytes : (old new : List ℕ) → new ≡ (48 ∷ 44 ∷ 50 ∷ 50 ∷ 10 ∷ []) ++ drop 5 old → (5 ≤ length new) × (take 5 new ≡ bytes "0,22\n")
-unfolding bytes
-five_bytes old new e =
-    let l = ap length e in (omega arith, ap (take 5) e)
 
 module _ (t : Text) where
   pub text_too_long : program_bytes < length t → bytes "0,22\n" ≡ prints t

@@ -1,6 +1,6 @@
 -- The five adding commands as one: what each reader found is the reading of an adding command, and what each command answers for its
 -- gathered lists it answers for the command that was read.
-use Rattle.std.specs.Prelude.{List, ◌≡◌, true, ℕ}
+use Rattle.std.specs.Prelude.{List, Option, ◌≡◌, true, ℕ}
 use Rattle.std.proofs.Math.Path.{ap}
 use Rattle.std.proofs.Common.{subst, sym}
 use Rattle.command_outcome.specs.Outcome.{Called}
@@ -25,9 +25,9 @@ use Rattle.session_add.specs.Adding.{Adds}
 -- ---- what was read
 
 module _ (t t' : Tables) (x : Said) where
-  pub spec_adds : (r : SpecRequest) → SpecAsked t t' r x → Adds t t' r.room (λ k. SpecAsks k r) x
+  pub spec_adds : (o : Option SpecRequest) → SpecAsked t t' o x → Adds t t' o (λ r k. SpecAsks k r) x
   unfolding carry
-  spec_adds r q = record {
+  spec_adds o q = record {
     names = spec_names q.c q.ps q.vs;
     numbered = λ u. spec_numbered u q.c q.ps q.vs q.s;
     is = λ s. ap (carry s) q.is;
@@ -36,9 +36,9 @@ module _ (t t' : Tables) (x : Said) where
     asks = q.asks;
   }
 
-  pub mod_adds : (r : ModRequest) → ModAsked t t' r x → Adds t t' r.room (λ k. ModAsks k r) x
+  pub mod_adds : (o : Option ModRequest) → ModAsked t t' o x → Adds t t' o (λ r k. ModAsks k r) x
   unfolding carry
-  mod_adds r q = record {
+  mod_adds o q = record {
     names = mod_names q.c q.is;
     numbered = λ u. mod_numbered u q.c q.is;
     is = λ s. ap (carry s) q.said;
@@ -47,9 +47,9 @@ module _ (t t' : Tables) (x : Said) where
     asks = q.asks;
   }
 
-  pub sys_adds : (r : SysRequest) → SysAsked t t' r x → Adds t t' r.room (λ k. SysAsks k r) x
+  pub sys_adds : (o : Option SysRequest) → SysAsked t t' o x → Adds t t' o (λ r k. SysAsks k r) x
   unfolding carry
-  sys_adds r q = record {
+  sys_adds o q = record {
     names = sys_names q.c q.us q.ks;
     numbered = λ u. sys_numbered u q.c q.us q.ks;
     is = λ s. ap (carry s) q.said;
@@ -58,9 +58,9 @@ module _ (t t' : Tables) (x : Said) where
     asks = q.asks;
   }
 
-  pub modvar_adds : (r : ModvarRequest) → ModvarAsked t t' r x → Adds t t' r.room (λ k. ModvarAsks k r) x
+  pub modvar_adds : (o : Option ModvarRequest) → ModvarAsked t t' o x → Adds t t' o (λ r k. ModvarAsks k r) x
   unfolding carry
-  modvar_adds r q = record {
+  modvar_adds o q = record {
     names = modvar_names q.c q.v q.rs q.i;
     numbered = λ u. modvar_numbered u q.c q.v q.rs q.i;
     is = λ s. ap (carry s) q.said;
@@ -69,9 +69,9 @@ module _ (t t' : Tables) (x : Said) where
     asks = q.asks;
   }
 
-  pub sysvar_adds : (r : SysvarRequest) → SysvarAsked t t' r x → Adds t t' r.room (λ k. SysvarAsks k r) x
+  pub sysvar_adds : (o : Option SysvarRequest) → SysvarAsked t t' o x → Adds t t' o (λ r k. SysvarAsks k r) x
   unfolding carry
-  sysvar_adds r q = record {
+  sysvar_adds o q = record {
     names = sysvar_names q.c q.v q.ms;
     numbered = λ u. sysvar_numbered u q.c q.v q.ms;
     is = λ s. ap (carry s) q.said;

@@ -9,48 +9,45 @@ ghost use Rattle.session_state.specs.Carried.{Decides};
 ghost use Rattle.session_state.specs.State.{plain_state};
 ghost use Rattle.text.specs.Language.{add_sys, add_sysvar};
 
+use command_add::{add_sys_in, add_sysvar_in};
 use read_tokens::Reader;
 use refusal::Refusal;
 use session_state::State;
 
-// "sys", from behind that word.
+// "sys", from behind that word. It may change the tables of components and versions, and promises that the others stay.
 pub fn add_sys(state: &mut State, reader: &mut Reader<'_>) -> Option<Result<(), Refusal>>
     ensures answers { Gives add_sys (λ a. Decides (plain_state state.old) (plain_state state.new) (code a)) reader.old reader.new result }
     ensures unread { IfNone result (plain_state state.new ≡ plain_state state.old) }
     ensures facs_kept { state.new.names.facs ≡ state.old.names.facs }
     ensures impls_kept { state.new.names.impls ≡ state.old.names.impls }
 {
-    let mut comps = state.names.comps;
-    let mut vers = state.names.vers;
-    let r = read_sys::read_sys(&mut comps, &mut vers, reader)?;
-    if !r.room {
+    let mut pairs = state.pairs();
+    let Some(r) = read_sys::read_sys(&mut pairs, reader)? else {
         return Some(Err(Refusal::NoPlace));
-    }
-    let answer = session_add::answer_sys(&mut state.book, r);
+    };
+    let answer = add_sys_in(&mut state.book, r.component, r.usable, r.versions);
     if answer.is_ok() {
-        state.names.comps = comps;
-        state.names.vers = vers;
+        state.names.comps = pairs.comps.table;
+        state.names.vers = pairs.vers.table;
     }
     Some(answer)
 }
 
-// "sysvar", from behind that word.
+// "sysvar", from behind that word. It may change the tables of components and versions, and promises that the others stay.
 pub fn add_sysvar(state: &mut State, reader: &mut Reader<'_>) -> Option<Result<(), Refusal>>
     ensures answers { Gives add_sysvar (λ a. Decides (plain_state state.old) (plain_state state.new) (code a)) reader.old reader.new result }
     ensures unread { IfNone result (plain_state state.new ≡ plain_state state.old) }
     ensures facs_kept { state.new.names.facs ≡ state.old.names.facs }
     ensures impls_kept { state.new.names.impls ≡ state.old.names.impls }
 {
-    let mut comps = state.names.comps;
-    let mut vers = state.names.vers;
-    let r = read_sys::read_sysvar(&mut comps, &mut vers, reader)?;
-    if !r.room {
+    let mut pairs = state.pairs();
+    let Some(r) = read_sys::read_sysvar(&mut pairs, reader)? else {
         return Some(Err(Refusal::NoPlace));
-    }
-    let answer = session_add::answer_sysvar(&mut state.book, r);
+    };
+    let answer = add_sysvar_in(&mut state.book, r.component, r.version, r.composition);
     if answer.is_ok() {
-        state.names.comps = comps;
-        state.names.vers = vers;
+        state.names.comps = pairs.comps.table;
+        state.names.vers = pairs.vers.table;
     }
     Some(answer)
 }

@@ -2,11 +2,9 @@
 // of a lent slice.
 #![tactic(auto)]
 
-ghost use Rattle.std.specs.Prelude.{◌≡◌, true, IfNone};
+ghost use Rattle.std.specs.Prelude.{◌≡◌, IfNone};
 ghost use Rattle.text.specs.Language.{of_one};
-ghost use Rattle.text.specs.Bytes.{short};
 ghost use Rattle.text.specs.Session.{asked, lines};
-ghost use Rattle.model.specs.Queries as model;
 ghost use Rattle.read_tokens.specs.Ahead.{Gives};
 ghost use Rattle.write_bytes.specs.Writes.{Writes};
 ghost use Rattle.session_state.specs.Carried.{CarriedBy};
@@ -17,62 +15,28 @@ ghost use Rattle.session_rows.specs.Asked.{query_of};
 use read_command::OfComponent;
 use read_tokens::Reader;
 use refusal::Refusal;
+use session_rows::{put_numbers, put_refusal, put_version};
 use session_state::State;
 use write_bytes::Writer;
 
-// The queries of the component with the number c, one by one.
-fn put_supplies(writer: &mut Writer<'_>, i: usize, state: &State, c: usize)
-    ensures { Writes (lines i (asked (plain_state state.now) (model.SUPPLIES c))) writer.old writer.new }
-{
-    let reply = query_replies::supplies_in(&state.book, c);
-    session_rows::put_numbers(writer, i, &state.names.facs, 64, reply);
-}
-
-fn put_whereused(writer: &mut Writer<'_>, i: usize, state: &State, c: usize)
-    ensures { Writes (lines i (asked (plain_state state.now) (model.WHEREUSED c))) writer.old writer.new }
-{
-    let reply = query_sets::whereused_in(&state.book, c);
-    session_rows::put_numbers(writer, i, &state.names.comps, 32, reply);
-}
-
-fn put_standard(writer: &mut Writer<'_>, i: usize, state: &State, c: usize)
-    ensures { Writes (lines i (asked (plain_state state.now) (model.STANDARD c))) writer.old writer.new }
-{
-    match query_replies::standard_in(&state.book, c) {
-        Ok(v) => {
-            write_rows::put_answer_row(writer, i, 0);
-            write_rows::put_name_row(writer, i, &state.names.vers, 64, v);
-        }
-        Err(refusal) => session_rows::put_refusal(writer, i, refusal),
-    }
-}
-
-// The one that is asked for.
+// The query of the component with the number c. Each kind has a question of its own to the Book, so the match names them.
+#[tactic(auto, unfolding(session_rows::specs::Asked::query_of))]
 fn put_of_component(writer: &mut Writer<'_>, i: usize, state: &State, c: usize, query: OfComponent)
     ensures { Writes (lines i (asked (plain_state state.now) (query_of query c))) writer.old writer.new }
 {
+    let names = &state.names;
+    let book = state.passing();
     match query {
-        OfComponent::Supplies => put_supplies(writer, i, state, c),
-        OfComponent::Standard => put_standard(writer, i, state, c),
-        OfComponent::WhereUsed => put_whereused(writer, i, state, c),
+        OfComponent::Supplies => {
+            put_numbers(writer, i, &names.facs, query_replies::supplies_in(book, c))
+        }
+        OfComponent::Standard => {
+            put_version(writer, i, &names.vers, query_replies::standard_in(book, c))
+        }
+        OfComponent::WhereUsed => {
+            put_numbers(writer, i, &names.comps, query_sets::whereused_in(book, c))
+        }
     }
-}
-
-// The query of the component with this name.
-fn put_named_component(
-    writer: &mut Writer<'_>,
-    i: usize,
-    state: &State,
-    word: &[u8],
-    query: OfComponent,
-)
-    requires word_value { short word.now ≡ true }
-    ensures { CarriedBy i (plain_state state.now) (plain_state state.now) writer.old writer.new (asked_of query word.now) }
-{
-    let Some(c) = names::lookup(&state.names.comps, 32, word) else {
-        return session_rows::put_refusal(writer, i, Refusal::NotSpecified);
-    };
-    put_of_component(writer, i, state, c, query);
 }
 
 // A query of one component, from behind its first word.
@@ -88,6 +52,10 @@ pub fn show_component(
     ensures unread { IfNone result (writer.new ≡ writer.old) }
 {
     let word = read_command::read_one(reader)?;
-    put_named_component(writer, i, state, word, query);
+    let Some(c) = state.names.comps.lookup(word) else {
+        put_refusal(writer, i, Refusal::NotSpecified);
+        return Some(());
+    };
+    put_of_component(writer, i, state, c, query);
     Some(())
 }

@@ -16,7 +16,8 @@ use session_add_sys::{add_sys, add_sysvar};
 use session_delete::{remove_component, remove_version};
 use session_state::State;
 
-// One of the ten commands, whose first word is read: its answer, and its change of book and tables.
+// One of the ten commands, whose first word is read: its answer, and its change of book and tables. Each kind is read by a production of its
+// own, so the match names them.
 #[tactic(auto, unfolding(read_command::specs::Forms::command_reader))]
 pub fn decide(
     state: &mut State,

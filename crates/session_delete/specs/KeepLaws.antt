@@ -8,13 +8,13 @@ use Rattle.command_outcome.specs.Outcome.{Called, answered}
 use Rattle.model.specs.Book.{Book}
 use Rattle.model.specs.Commands.{Command}
 use Rattle.model.specs.PlainBook.{answer, next}
-use Rattle.names.specs.Stored.{tables_of}
+use Rattle.names.specs.Stored.{tables}
 use Rattle.book_rules.specs.Test.{passes}
 use Rattle.sets.specs.TestLaws.{if-true}
 use Rattle.session_state.specs.Carried.{Decides}
 use Rattle.session_state.specs.CarriedLaws.{told_next}
-use Rattle.session_state.specs.Ready.{Ready}
-use Rattle.session_state.specs.State.{state_of}
+use Rattle.session_state.specs.State.{plain_state, state_of}
+use Rattle.session_state.specs.declared.state.State.{State as Held}
 use Rattle.text.specs.Language.{Said}
 use Rattle.text.specs.Session.{State, carry, changed, decided, refused, told}
 
@@ -41,17 +41,17 @@ unfolding decided
 decided_same zero x y e = ap changed (e refl)
 decided_same (suc m) x y e = refl
 
-module _ (s n c v f i : List ℕ) (ready : Ready s n c v f i) (k : Command) (a : ℕ) (s' n' : List ℕ) (h : Called s n k a s' n') where
+module _ (s : Held) (k : Command) (a : ℕ) (b n : List ℕ) (h : Called s.book.sets s.book.numbers k a b n) where
   abbrev holding : Book → State
-  holding b = record { book = b; tables = tables_of c v f i }
+  holding book = record { book = book; tables = tables s.names }
 
   -- a command that comes to k
-  pub carried_out : (x : Said) → carry (state_of s n c v f i) x ≡ told (plain_of s n) (tables_of c v f i) k
-      → Decides (state_of s n c v f i) (state_of s' n' c v f i) a x
+  pub carried_out : (x : Said) → carry (plain_state s) x ≡ told (plain_of s.book.sets s.book.numbers) (tables s.names) k
+      → Decides (plain_state s) (state_of b n s.names.comps.rows s.names.vers.rows s.names.facs.rows s.names.impls.rows) a x
   unfolding state_of
   carried_out x e = record {
-    is = e ∙ told_next (plain_of s n) (tables_of c v f i) k
-        ∙ ap (λ (m : ℕ). decided m (holding (next (plain_of s n) k))) (sym (called_answer s n k a s' n' h ready.passes))
+    is = e ∙ told_next (plain_of s.book.sets s.book.numbers) (tables s.names) k
+        ∙ ap (λ (m : ℕ). decided m (holding (next (plain_of s.book.sets s.book.numbers) k))) (sym (called_answer _ _ k a b n h s.ready.passes))
         ∙ decided_same a _ _ (λ z. ap holding (sym (h.accepted z).0));
     refused = λ ne. ap₂ (λ (x y : List ℕ). holding (plain_of x y)) (h.refused ne).0 (h.refused ne).1;
   }

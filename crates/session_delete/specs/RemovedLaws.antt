@@ -1,5 +1,5 @@
 -- A command that takes out, read and carried out: a law for each way out of the code.
-use Rattle.std.specs.Prelude.{Bool, true, List, None, Option as Found, Some, ◌≡◌, ◌<◌, ℕ}
+use Rattle.std.specs.Prelude.{Bool, true, List, None, Some, ◌≡◌, ℕ}
 use Rattle.std.proofs.Math.Bool.{false}
 use Rattle.std.proofs.Math.Option.{Option, none, some}
 use Rattle.std.proofs.Common.{◌∙◌, subst, sym, arith}
@@ -11,19 +11,17 @@ use Rattle.read_tokens.specs.declared.reader.Reader.{Reader}
 use Rattle.read_command.specs.Words.{OneSaid, PairSaid}
 use Rattle.read_command.specs.declared.Pair.{Pair}
 use Rattle.model.specs.Book.{Book, components, versions}
-use Rattle.names.specs.EnterLaws.{found_at, found_nothing, table-length}
-use Rattle.names.specs.Stored.{table_of, tables_of}
+use Rattle.names.specs.Stored.{table_of, tables, tables_of}
 use Rattle.sets.specs.Answered.{answered}
 use Rattle.sets.specs.Tests.{if?◌then◌else◌}
 use Rattle.session_state.specs.Carried.{Decides}
 use Rattle.session_state.specs.CarriedLaws.{gives_as}
-use Rattle.session_state.specs.Ready.{Ready}
-use Rattle.session_state.specs.State.{state_of}
+use Rattle.session_state.specs.State.{plain_state, state_of}
+use Rattle.session_state.specs.declared.state.State.{State as Held}
 use Rattle.text.specs.Bytes.{Text}
 use Rattle.text.specs.Language.{Name, Said, of_one, of_pair}
 use Rattle.text.specs.Session.{Result, State, carry, for_component, for_pair, of_component, of_version, refused, told}
 use Rattle.text.specs.Tables.{place}
-use Rattle.text_laws.specs.Places.{place_name}
 use Rattle.read_command.specs.Forms.{removed}
 use Rattle.session_delete.specs.Removed.{component_answer, component_command, is_of_kind, pair_answer, version_answer, version_command}
 use Rattle.read_command.specs.Forms.{version_removed}
@@ -54,27 +52,28 @@ module _ (kind : Component) (r r' : Reader) (w : Text) (g : Read (of_one (remove
   one_read : (R : Said → Type 0) → R (removed kind w) → Read (of_one (removed kind)) R r r'
   one_read R x = gives_as r r' g (λ k q. subst R (sym q.is) x)
 
-  module _ (s n c v f i : List ℕ) (o : Found ℕ) (q : answered o ≡ place (table_of components c) w) where
+  module _ (s : Held) where
     abbrev taken : ℕ → Result
-    taken j = told (plain_of s n) (tables_of c v f i) (component_command kind j)
+    taken j = told (plain_of s.book.sets s.book.numbers) (tables s.names) (component_command kind j)
 
     -- the name's number, or that it has none
-    component_as : (p : Option ℕ) → place (table_of components c) w ≡ p → carry (state_of s n c v f i) (removed kind w)
-        ≡ for_component (component_answer kind) p taken
+    component_as : (p : Option ℕ) → place (table_of components s.names.comps.rows) w ≡ p
+        → carry (plain_state s) (removed kind w) ≡ for_component (component_answer kind) p taken
     unfolding of_component state_of tables_of
-    component_as p z = component_told kind (state_of s n c v f i) w ∙ ap (λ (p : Option ℕ). for_component (component_answer kind) p taken) z
+    component_as p z = component_told kind (plain_state s) w ∙ ap (λ (p : Option ℕ). for_component (component_answer kind) p taken) z
 
-    pub component_unknown : o ≡ None → (m : ℕ) → m ≡ component_answer kind
-        → Read (of_one (removed kind)) (Decides (state_of s n c v f i) (state_of s n c v f i) m) r r'
-    unfolding for_component
-    component_unknown z m d = one_read _
-        (unchanged _ m _ (λ x. component_no kind (sym d ∙ x)) (component_as none (found_nothing o _ q z) ∙ ap refused (sym d)))
+    pub component_unknown : answered None ≡ place (table_of components s.names.comps.rows) w → (m : ℕ) → m ≡ component_answer kind
+        → Read (of_one (removed kind)) (Decides (plain_state s) (plain_state s) m) r r'
+    unfolding answered for_component
+    component_unknown z m d =
+        one_read _ (unchanged _ m _ (λ x. component_no kind (sym d ∙ x)) (component_as none (sym z) ∙ ap refused (sym d)))
 
-    pub component_known : Ready s n c v f i → (k : ℕ) → o ≡ Some k → (m : ℕ) (s' n' : List ℕ) → Called s n (component_command kind k) m s' n'
-        → Read (of_one (removed kind)) (Decides (state_of s n c v f i) (state_of s' n' c v f i) m) r r'
-    unfolding for_component
-    component_known ready k z m s' n' h =
-        one_read _ (carried_out s n c v f i ready _ m s' n' h _ (component_as (some k) (found_at o k _ q z)))
+    pub component_known : (k : ℕ) → answered (Some k) ≡ place (table_of components s.names.comps.rows) w → (m : ℕ) (b n : List ℕ)
+        → Called s.book.sets s.book.numbers (component_command kind k) m b n
+        → Read (of_one (removed kind))
+        (Decides (plain_state s) (state_of b n s.names.comps.rows s.names.vers.rows s.names.facs.rows s.names.impls.rows) m) r r'
+    unfolding answered for_component
+    component_known k z m b n h = one_read _ (carried_out s _ m b n h _ (component_as (some k) (sym z)))
 
 -- ---- delmodvar, delsysvar
 
@@ -103,44 +102,43 @@ unfolding if?◌then◌else◌
 refused_if true m j = refl
 refused_if false m j = refl
 
--- a place of a table
-pub found_small : (n : ℕ) (bytes : List ℕ) (w : Name) (o : Found ℕ) (k : ℕ) → answered o ≡ place (table_of n bytes) w → o ≡ Some k → k < n
-found_small n bytes w o k q e =
-    let p = (place_name (table_of n bytes) w k (found_at o k _ q e)).1 in let l = table-length n bytes in omega arith
-
 module _ (kind : Version) (r r' : Reader) (p : Pair) (g : Read (of_pair (version_removed kind)) (PairSaid (version_removed kind) p) r r') where
   pair_read : (R : Said → Type 0) → R (version_removed kind p.component.now p.version.now) → Read (of_pair (version_removed kind)) R r r'
   pair_read R x = gives_as r r' g (λ k q. subst R (sym q.is) x)
 
-  module _ (s n c v f i : List ℕ) (o : Found ℕ) (q : answered o ≡ place (table_of components c) p.component.now) where
+  module _ (s : Held) where
     abbrev version_taken : ℕ → ℕ → Result
-    version_taken j l = told (plain_of s n) (tables_of c v f i) (version_command kind j l)
+    version_taken j l = told (plain_of s.book.sets s.book.numbers) (tables s.names) (version_command kind j l)
+
+    abbrev has_kind : ℕ → Bool
+    has_kind = is_of_kind kind (plain_of s.book.sets s.book.numbers)
 
     -- the names' numbers, or that one has none
-    version_as : (j k : Option ℕ) → place (table_of components c) p.component.now ≡ j → place (table_of versions v) p.version.now ≡ k
-        → carry (state_of s n c v f i) (version_removed kind p.component.now p.version.now)
-        ≡ for_pair (pair_answer kind) (is_of_kind kind (plain_of s n)) j k version_taken
+    version_as : (j k : Option ℕ) → place (table_of components s.names.comps.rows) p.component.now ≡ j
+        → place (table_of versions s.names.vers.rows) p.version.now ≡ k
+        → carry (plain_state s) (version_removed kind p.component.now p.version.now) ≡ for_pair (pair_answer kind) has_kind j k version_taken
     unfolding of_version state_of tables_of
-    version_as j k z x = version_told kind (state_of s n c v f i) p.component.now p.version.now
-        ∙ ap₂ (λ (j k : Option ℕ). for_pair (pair_answer kind) (is_of_kind kind (plain_of s n)) j k version_taken) z x
+    version_as j k z x = version_told kind (plain_state s) p.component.now p.version.now
+        ∙ ap₂ (λ (j k : Option ℕ). for_pair (pair_answer kind) has_kind j k version_taken) z x
 
-    pub pair_unknown : o ≡ None → (m : ℕ) → m ≡ pair_answer kind
-        → Read (of_pair (version_removed kind)) (Decides (state_of s n c v f i) (state_of s n c v f i) m) r r'
-    unfolding for_pair
-    pair_unknown z m d = pair_read _
-        (unchanged _ m _ (λ x. pair_no kind (sym d ∙ x)) (version_as none _ (found_nothing o _ q z) refl ∙ ap refused (sym d)))
+    pub pair_unknown : answered None ≡ place (table_of components s.names.comps.rows) p.component.now → (m : ℕ) → m ≡ pair_answer kind
+        → Read (of_pair (version_removed kind)) (Decides (plain_state s) (plain_state s) m) r r'
+    unfolding answered for_pair
+    pair_unknown z m d =
+        pair_read _ (unchanged _ m _ (λ x. pair_no kind (sym d ∙ x)) (version_as none _ (sym z) refl ∙ ap refused (sym d)))
 
-    module _ (j : ℕ) (z : o ≡ Some j) (o' : Found ℕ) (q' : answered o' ≡ place (table_of versions v) p.version.now) where
-      pub version_unknown : o' ≡ None → (m : ℕ) → m ≡ version_answer kind (plain_of s n) j
-          → Read (of_pair (version_removed kind)) (Decides (state_of s n c v f i) (state_of s n c v f i) m) r r'
-      unfolding for_pair version_answer
+    module _ (j : ℕ) (z : answered (Some j) ≡ place (table_of components s.names.comps.rows) p.component.now) where
+      pub version_unknown : answered None ≡ place (table_of versions s.names.vers.rows) p.version.now → (m : ℕ)
+          → m ≡ version_answer kind (plain_of s.book.sets s.book.numbers) j
+          → Read (of_pair (version_removed kind)) (Decides (plain_state s) (plain_state s) m) r r'
+      unfolding answered for_pair version_answer
       version_unknown x m d = pair_read _
-          (unchanged _ m _ (λ x. version_no kind (plain_of s n) j (sym d ∙ x))
-          (version_as (some j) none (found_at o j _ q z) (found_nothing o' _ q' x)
-          ∙ refused_if (is_of_kind kind (plain_of s n) j) 10 (pair_answer kind) ∙ ap refused (sym d)))
+          (unchanged _ m _ (λ e. version_no kind (plain_of s.book.sets s.book.numbers) j (sym d ∙ e))
+          (version_as (some j) none (sym z) (sym x) ∙ refused_if (has_kind j) 10 (pair_answer kind) ∙ ap refused (sym d)))
 
-      pub version_known : Ready s n c v f i → (l : ℕ) → o' ≡ Some l → (m : ℕ) (s' n' : List ℕ) → Called s n (version_command kind j l) m s' n'
-          → Read (of_pair (version_removed kind)) (Decides (state_of s n c v f i) (state_of s' n' c v f i) m) r r'
-      unfolding for_pair
-      version_known ready l x m s' n' h =
-          pair_read _ (carried_out s n c v f i ready _ m s' n' h _ (version_as (some j) (some l) (found_at o j _ q z) (found_at o' l _ q' x)))
+      pub version_known : (l : ℕ) → answered (Some l) ≡ place (table_of versions s.names.vers.rows) p.version.now → (m : ℕ) (b n : List ℕ)
+          → Called s.book.sets s.book.numbers (version_command kind j l) m b n
+          → Read (of_pair (version_removed kind))
+          (Decides (plain_state s) (state_of b n s.names.comps.rows s.names.vers.rows s.names.facs.rows s.names.impls.rows) m) r r'
+      unfolding answered for_pair
+      version_known l x m b n h = pair_read _ (carried_out s _ m b n h _ (version_as (some j) (some l) (sym z) (sym x)))

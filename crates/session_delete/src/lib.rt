@@ -1,7 +1,7 @@
 // The five commands of a session's text that take out, each read from behind its first word and carried out (specs/Removed.antt).
 #![tactic(auto)]
 
-ghost use Rattle.std.specs.Prelude.{◌≡◌, true, ◌<◌, IfNone};
+ghost use Rattle.std.specs.Prelude.{◌≡◌, true, IfNone};
 ghost use Rattle.book.specs.Plain.{plain};
 ghost use Rattle.command_outcome.specs.Outcome.{Called};
 ghost use Rattle.read_tokens.specs.Ahead.{Gives};
@@ -33,12 +33,12 @@ fn component_answer(kind: Component) -> Refusal
     }
 }
 
-// The command of the component with the number c, carried out. It gives the answer.
+// The command of the component with the number c, carried out. It gives the answer. Each kind is a call of its own, so the match names
+// them; what is asked of the Book is what each of these calls asks, and the caller has it from its State.
 #[tactic(auto, unfolding(crate::specs::Removed::component_command))]
 fn take_out(book: &mut Book, kind: Component, c: usize) -> Result<(), Refusal>
     requires { test.passes book.old.sets book.old.numbers ≡ true }
-    ensures sets_kept { book.new.sets ≡ book.old.sets }
-    ensures called { Called book.old.sets book.old.numbers (component_command kind c) (code result) book.new.sets book.new.numbers }
+    ensures { Called book.old.sets book.old.numbers (component_command kind c) (code result) book.new.sets book.new.numbers }
 {
     match kind {
         Component::Spec => command_delete::del_spec_in(book, c),
@@ -59,7 +59,7 @@ pub fn remove_component(
     ensures names_kept { state.new.names ≡ state.old.names }
 {
     let word = read_command::read_one(reader)?;
-    let Some(c) = names::lookup(&state.names.comps, 32, word) else {
+    let Some(c) = state.names.comps.lookup(word) else {
         return Some(Err(component_answer(kind)));
     };
     Some(take_out(&mut state.book, kind, c))
@@ -80,7 +80,6 @@ fn pair_answer(kind: Version) -> Refusal
 
 #[tactic(auto, unfolding(crate::specs::Removed::is_of_kind))]
 fn is_of_kind(book: &Book, kind: Version, c: usize) -> bool
-    requires { c < 32 }
     ensures { result ≡ is_of_kind kind (plain book.now) c }
 {
     match kind {
@@ -91,21 +90,21 @@ fn is_of_kind(book: &Book, kind: Version, c: usize) -> bool
 
 // The answer for a version without a number, of the component c.
 fn version_answer(book: &Book, kind: Version, c: usize) -> Refusal
-    requires { c < 32 }
     ensures { number result ≡ version_answer kind (plain book.now) c }
 {
     if is_of_kind(book, kind, c) {
-        return Refusal::NoVersion;
+        Refusal::NoVersion
+    } else {
+        pair_answer(kind)
     }
-    pair_answer(kind)
 }
 
-// The command of version v of the component c, carried out. It gives the answer.
+// The command of version v of the component c, carried out. It gives the answer. Each kind is a call of its own, so the match names them;
+// what is asked of the Book is what each of these calls asks, and the caller has it from its State.
 #[tactic(auto, unfolding(crate::specs::Removed::version_command))]
 fn take_version_out(book: &mut Book, kind: Version, c: usize, v: usize) -> Result<(), Refusal>
     requires { test.passes book.old.sets book.old.numbers ≡ true }
-    ensures sets_kept { book.new.sets ≡ book.old.sets }
-    ensures called { Called book.old.sets book.old.numbers (version_command kind c v) (code result) book.new.sets book.new.numbers }
+    ensures { Called book.old.sets book.old.numbers (version_command kind c v) (code result) book.new.sets book.new.numbers }
 {
     match kind {
         Version::Module => command_delete::del_modvar_in(book, c, v),
@@ -125,10 +124,10 @@ pub fn remove_version(
     ensures names_kept { state.new.names ≡ state.old.names }
 {
     let pair = read_command::read_pair(reader)?;
-    let Some(c) = names::lookup(&state.names.comps, 32, pair.component) else {
+    let Some(c) = state.names.comps.lookup(pair.component) else {
         return Some(Err(pair_answer(kind)));
     };
-    let Some(v) = names::lookup(&state.names.vers, 64, pair.version) else {
+    let Some(v) = state.names.vers.lookup(pair.version) else {
         return Some(Err(version_answer(&state.book, kind, c)));
     };
     Some(take_version_out(&mut state.book, kind, c, v))

@@ -1,5 +1,6 @@
--- The pairs of "choice" and "parts", from the numbers in a lent slice.
-use Rattle.std.specs.Prelude.{Bool, ◌≡◌, drop, take}
+-- The pairs of "choice" and "parts", from the numbers in a lent slice. `Held` is the state of the code.
+use Rattle.std.specs.Prelude.{Bool, Err, IfOk, Ok, Result as Found, ◌≡◌, drop, take}
+use Rattle.std.specs.Borrow.{Bor}
 use Rattle.std.proofs.Math.Bool.{true}
 use mathlib.Core.List.{List, [], ◌++◌, ◌∷◌, map}
 use Rattle.std.proofs.Common.{inl, inr, ◌∙◌, ap₂, subst, length-append, take_at}
@@ -9,13 +10,14 @@ use native.Mathlib.Omega.{arith}
 use Rattle.std.proofs.Math.ListN.{length}
 use Rattle.std.proofs.lemmas.List.{length-map}
 use Rattle.book.specs.Plain.{plain_of}
-use Rattle.write_bytes.specs.Written.{pair_row_lem, pair_of}
+use Rattle.book.specs.declared.Book.{Book as TheBook}
 use Rattle.model.specs.Book.{Book, Pair, facilities, has_version, provides, versions}
 use Rattle.model.specs.Lists.{every, rising, set_of}
 use Rattle.model.specs.PartsList.{listed, next_row, parts, rows_from}
-use Rattle.model.specs.Queries.{CHOICE, PARTS, Reply, asked, choice, found, pairs_from, refused, rising_pairs, the_pairs}
+use Rattle.model.specs.Queries.{CHOICE, PARTS, Reply, asked, choice, found, pairs_from, rising_pairs, the_pairs}
+use Rattle.model.specs.Queries as queries
 use Rattle.model.specs.Questions.{each_below, first_no}
-use Rattle.names.specs.Stored.{tables_of}
+use Rattle.names.specs.Stored.{tables}
 use Rattle.parts.specs.Listed.{parts_answer, parts_asked, row_number}
 use Rattle.parts.specs.Listed as parts_call
 use Rattle.query_replies.specs.Found.{flat}
@@ -23,6 +25,9 @@ use Rattle.query_replies.specs.Listed.{Listed, answer_of, fitted, row_of, rows_o
 use Rattle.query_replies.specs.Replied.{numbers_in, replied_to}
 use Rattle.query_replies.specs.RepliedLaws.{to_found, to_refused}
 use Rattle.query_replies.specs.RowLaws.{rows_flat}
+use Rattle.refusal.specs.NumberLaws.{no_number_0}
+use Rattle.refusal.specs.Numbers.{code, number}
+use Rattle.refusal.specs.declared.Refusal.{Refusal}
 use Rattle.model_laws.specs.FirstNoLaws.{none-asked, none_left, others_asked, yes_at}
 use Rattle.model_laws.specs.ListLaws.{every_listed}
 use Rattle.book_rules.specs.TestLaws.{passes_plain}
@@ -31,37 +36,40 @@ use Rattle.sets.specs.SetLaws.{bit_limit}
 use Rattle.sets.specs.Sets.{Set, bit, subset}
 use Rattle.sets.specs.TestLaws.{<?_in, <?_out, =?-same, and_in, and_l, and_r, count_le, if-true, or_l, or_r, same?, ≤?_in}
 use Rattle.sets.specs.Tests.{◌&◌, ◌<?◌, ◌≤?◌}
-use Rattle.session_state.specs.Ready.{Ready}
-use Rattle.session_state.specs.State.{state_of}
+use Rattle.session_state.specs.State.{plain_state}
+use Rattle.session_state.specs.declared.state.State.{State as Held}
 use Rattle.text.specs.Bytes.{Text}
-use Rattle.text.specs.Session.{decimal, lines, pair_row, row, rows, shown}
+use Rattle.text.specs.Session.{lines, pair_row, refused, rows, shown}
 use Rattle.text.specs.Session as session
+use Rattle.text.specs.Tables.{Tables}
 use Rattle.text_laws.specs.TextLaws.{every_append, every_map}
 use Rattle.model_laws.specs.Accepted.{Numbered, all_yes}
 use Rattle.model_laws.specs.Good.{passes→good}
 use Rattle.model_laws.specs.MapLaws.{option?}
 use Rattle.model_laws.specs.Parts.{pair_limits, part_has_version, parts_only, rows_from_end, rows_from_row, rows_from_zero}
 use Rattle.model_laws.specs.RisingLaws.{rising_below, rising-length, rising-set}
-use Rattle.session_rows.specs.Rows.{answer_rows, pair_in, pairs_in}
-use Rattle.session_rows.specs.RowLaws.{answer_alone}
-use Rattle.session_rows.specs.ShownLaws.{accepted_rows, asked_is}
+use Rattle.write_bytes.specs.Writes.{Writes}
+use Rattle.write_bytes.specs.WritesLaws.{writes_as}
+use Rattle.write_bytes.specs.declared.writer.Writer.{Writer}
+use Rattle.session_rows.specs.Rows.{comes_of, listed_in, pair_in, pairs_in}
+use Rattle.session_rows.specs.ShownLaws.{asked_is}
 
 -- ---- a pair and its number
 
 low : Pair → Bool
 low p = p.1 <? versions
 
-pair_back : (c v f m : List ℕ) (p : Pair) → p.1 < 64 → pair_in c v (row_of p) ≡ pair_row (tables_of c v f m) p
+pair_back : (t : Tables) (p : Pair) → p.1 < 64 → pair_in t (row_of p) ≡ pair_row t p
 unfolding pair_in row_of
-pair_back c v f m p l =
+pair_back t p l =
     let e : (p.0 * 64 + p.1) / 64 ≡ p.0 = omega arith in let e' : (p.0 * 64 + p.1) % 64 ≡ p.1 = omega arith in
-    ap₂ (pair_of c v) e e' ∙ sym (pair_row_lem c v f m p)
+    ap₂ (λ (c v : ℕ). pair_row t (c, v)) e e'
 
-rows_back_lem : (c v f m : List ℕ) (xs : List Pair) → every low xs ≡ true → map (pair_in c v) (map row_of xs) ≡ map (pair_row (tables_of c v f m)) xs
-unfolding every low
-rows_back_lem c v f m [] h = refl
-rows_back_lem c v f m (p ∷ xs) h =
-    ap₂ (λ (w : Text) (ws : List Text). w ∷ ws) (pair_back c v f m p (<?_out _ _ (and_l _ _ h))) (rows_back_lem c v f m xs (and_r _ _ h))
+pairs_back : (t : Tables) (xs : List Pair) → every low xs ≡ true → pairs_in t (map row_of xs) ≡ map (pair_row t) xs
+unfolding every low pairs_in
+pairs_back t [] h = refl
+pairs_back t (p ∷ xs) h =
+    ap₂ (λ (w : Text) (ws : List Text). w ∷ ws) (pair_back t p (<?_out _ _ (and_l _ _ h))) (pairs_back t xs (and_r _ _ h))
 
 slice_rows : (xs : List Pair) (old new : List ℕ) (n : ℕ) → n ≡ length (map row_of xs) → new ≡ filled (map row_of xs) old → take n new ≡ map row_of xs
 unfolding filled
@@ -72,13 +80,10 @@ unfolding filled
 filled_enough ws old new n e d =
     let l = ap length d ∙ length-append ws (drop (length ws) old) in omega arith
 
--- an accepted answer of pairs
-pairs_shown : (i : ℕ) (c v f m : List ℕ) (xs : List Pair) (old new : List ℕ) (n : ℕ) → every low xs ≡ true → n ≡ length (map row_of xs)
-    → new ≡ filled (map row_of xs) old → answer_rows i 0 (pairs_in c v n new) ≡ lines i (rows (map (pair_row (tables_of c v f m)) xs))
-unfolding pairs_in
-pairs_shown i c v f m xs old new n h e d =
-    ap (λ (ks : List ℕ). answer_rows i 0 (map (pair_in c v) ks)) (slice_rows xs old new n e d)
-    ∙ ap (answer_rows i 0) (rows_back_lem c v f m xs h) ∙ accepted_rows i _
+-- the pairs xs, of which the first rows of a slice are the numbers
+pairs_shown : (t : Tables) (xs : List Pair) (old new : List ℕ) (n : ℕ) → every low xs ≡ true → n ≡ length (map row_of xs)
+    → new ≡ filled (map row_of xs) old → pairs_in t (take n new) ≡ map (pair_row t) xs
+pairs_shown t xs old new n h e d = ap (pairs_in t) (slice_rows xs old new n e d) ∙ pairs_back t xs h
 
 -- ---- "choice"
 
@@ -106,51 +111,71 @@ module _ (test : ℕ → ℕ → Bool) where
 pub choice-room : (old : List ℕ) (a n : ℕ) (new : List ℕ) (r : Reply) → Listed old a n new r → n ≤ length new
 choice-room old a n new r z = filled_enough (rows_of r) old new n z.rows_are z.slice_is
 
-module _ (i : ℕ) (s n c v f m : List ℕ) (ready : Ready s n c v f m) (w : ℕ) (w< : w < 2 ^ 64) (fs : List ℕ) (e : bit w ≡ set_of fs) where
+module _ (s : Held) (w : ℕ) (w< : w < 2 ^ 64) (fs : List ℕ) (e : bit w ≡ set_of fs) where
+  abbrev chosen : List Pair
+  chosen = choice (plain_of s.book.sets s.book.numbers) fs
+
+  abbrev replied : List ℕ → Reply
+  replied gs = replied_to s.book.sets s.book.numbers (CHOICE gs)
+
   fs_below : each_below facilities fs ≡ true
   unfolding each_below set_of
   fs_below = every_listed (λ x. x <? facilities) fs (λ k h. <?_in _ _ (bit_limit 64 w k w< (ap (λ (g : Set). g k) e ∙ h)))
 
-  said_choice : (gs : List ℕ) → each_below facilities gs ≡ true → replied_to s n (CHOICE gs) ≡ the_pairs (choice (plain_of s n) gs)
+  said_choice : (gs : List ℕ) → each_below facilities gs ≡ true → replied gs ≡ the_pairs (choice (plain_of s.book.sets s.book.numbers) gs)
   unfolding asked found
-  said_choice gs h = to_found s n (CHOICE gs) ready.passes (yes_at 1 _ _ h ∙ none_left)
+  said_choice gs h = to_found s.book.sets s.book.numbers (CHOICE gs) s.ready.passes (yes_at 1 _ _ h ∙ none_left)
 
-  same_choice : choice (plain_of s n) (numbers_in w) ≡ choice (plain_of s n) fs
+  same_choice : choice (plain_of s.book.sets s.book.numbers) (numbers_in w) ≡ chosen
   unfolding choice numbers_in
   same_choice =
-      ap (λ (g : Set). rising_pairs (λ d u. has_version (plain_of s n).specs d u & subset facilities g (provides (plain_of s n).specs d)))
-      (rising-set w w< ∙ e)
+      let b = plain_of s.book.sets s.book.numbers in
+      ap (λ (g : Set). rising_pairs (λ d u. has_version b.specs d u & subset facilities g (provides b.specs d))) (rising-set w w< ∙ e)
 
-  choice_reply : replied_to s n (CHOICE (numbers_in w)) ≡ the_pairs (choice (plain_of s n) fs)
-  choice_reply = said_choice (numbers_in w) (unfold numbers_in in rising_below 64 (bit w)) ∙ ap the_pairs same_choice
-
-  choice-fits : (k : ℕ) → k ≡ 2048 → fitted k (replied_to s n (CHOICE (numbers_in w))) ≡ the_pairs (choice (plain_of s n) fs)
+  choice_fits : (k : ℕ) → k ≡ 2048 → fitted k (replied (numbers_in w)) ≡ the_pairs chosen
   unfolding fitted
-  choice-fits k d = ap (fitted k) choice_reply ∙ if-true _ _ _ (≤?_in _ _ (subst (λ (j : ℕ). length (choice (plain_of s n) fs) ≤ j) (sym d) few))
+  choice_fits k d = ap (fitted k) choice_reply ∙ if-true _ _ _ (≤?_in _ _ (subst (λ (j : ℕ). length chosen ≤ j) (sym d) few))
     where
-      few : length (choice (plain_of s n) fs) ≤ 2048
+      choice_reply : replied (numbers_in w) ≡ the_pairs chosen
+      choice_reply = said_choice (numbers_in w) (unfold numbers_in in rising_below 64 (bit w)) ∙ ap the_pairs same_choice
+
+      few : length chosen ≤ 2048
       few = unfold choice in pairs_few _
 
-  pub choice_shown : (old new : List ℕ) (a k : ℕ) → length old ≡ 2048
-      → Listed old a k new (fitted (length old) (replied_to s n (CHOICE (numbers_in w))))
-      → answer_rows i a (pairs_in c v k new) ≡ lines i (session.asked (state_of s n c v f m) (CHOICE fs))
-  choice_shown old new a k l z =
-      written ∙ ap (lines i) (sym (asked_is i s n c v f m ready (CHOICE fs) ∙ ap (shown (tables_of c v f m)) (said_choice fs fs_below) ∙ as_rows))
-    where
-      is : Listed old a k new (the_pairs (choice (plain_of s n) fs))
-      is = subst (Listed old a k new) (choice-fits (length old) l) z
+  module _ (old new : List ℕ) (a n : ℕ) (l : length old ≡ 2048) (z : Listed old a n new (fitted (length old) (replied (numbers_in w)))) where
+    is : Listed old a n new (the_pairs chosen)
+    is = subst (Listed old a n new) (choice_fits (length old) l) z
 
-      as_rows : shown (tables_of c v f m) (the_pairs (choice (plain_of s n) fs))
-          ≡ rows (map (pair_row (tables_of c v f m)) (choice (plain_of s n) fs))
-      as_rows = unfold shown in refl
+    choice_rows : pairs_in (tables s.names) (take n new) ≡ map (pair_row (tables s.names)) chosen
+    choice_rows =
+        let low_pairs : every low chosen ≡ true = unfold choice in pairs_low _ in
+        let n_is : n ≡ length (map row_of chosen) = unfold rows_of in is.rows_are in
+        let new_is : new ≡ filled (map row_of chosen) old = unfold rows_of in is.slice_is in
+        pairs_shown (tables s.names) chosen old new n low_pairs n_is new_is
 
-      written : answer_rows i a (pairs_in c v k new) ≡ lines i (rows (map (pair_row (tables_of c v f m)) (choice (plain_of s n) fs)))
-      written =
-          let z : a ≡ 0 = unfold answer_of in is.answer_is in
-          let l : every low (choice (plain_of s n) fs) ≡ true = unfold choice in pairs_low _ in
-          let r : k ≡ length (map row_of (choice (plain_of s n) fs)) = unfold rows_of in is.rows_are in
-          let y : new ≡ filled (map row_of (choice (plain_of s n) fs)) old = unfold rows_of in is.slice_is in
-          ap (λ (b : ℕ). answer_rows i b (pairs_in c v k new)) z ∙ pairs_shown i c v f m (choice (plain_of s n) fs) old new k l r y
+    accepted : a ≡ 0
+    unfolding answer_of
+    accepted = is.answer_is
+
+    choice_comes : (m : Found (Bor (List ℕ)) Refusal) → code m ≡ a → IfOk m (λ k. k.now ≡ take n new)
+        → comes_of (listed_in (tables s.names)) m ≡ shown (tables s.names) (the_pairs chosen)
+    unfolding comes_of listed_in shown
+    choice_comes (Ok k) e h = ap rows (ap (pairs_in (tables s.names)) h ∙ choice_rows)
+    choice_comes (Err r) e h = absurd (no_number_0 r (e ∙ accepted))
+
+    choice_written : (i : ℕ) (m : Found (Bor (List ℕ)) Refusal) {x y : Writer} → code m ≡ a → IfOk m (λ k. k.now ≡ take n new)
+        → Writes (lines i (comes_of (listed_in (tables s.names)) m)) x y → Writes (lines i (session.asked (plain_state s) (CHOICE fs))) x y
+    choice_written i m e h f = writes_as
+        (ap (lines i) (choice_comes m e h ∙ sym (asked_is s (CHOICE fs) ∙ ap (shown (tables s.names)) (said_choice fs fs_below)))) f
+
+-- the book that was asked is the state's
+pub choice_put : (s : Held) {book : TheBook} → book ≡ s.book → (w : ℕ) → w < 2 ^ 64 → (fs : List ℕ) → bit w ≡ set_of fs → (old new : List ℕ) (a n : ℕ)
+    → length old ≡ 2048 → Listed old a n new (fitted (length old) (replied_to book.sets book.numbers (CHOICE (numbers_in w))))
+    → (i : ℕ) (m : Found (Bor (List ℕ)) Refusal) {x y : Writer} → code m ≡ a → IfOk m (λ k. k.now ≡ take n new)
+    → Writes (lines i (comes_of (listed_in (tables s.names)) m)) x y → Writes (lines i (session.asked (plain_state s) (CHOICE fs))) x y
+choice_put s same w w< fs e old new a n l z =
+    choice_written s w w< fs e old new a n l
+    (subst (λ (b : TheBook). Listed old a n new (fitted (length old) (replied_to b.sets b.numbers (CHOICE (numbers_in w))))) same z)
 
 -- ---- "parts"
 
@@ -174,9 +199,9 @@ parts-room s n d u old a k depth new z = elim (same? a 0) [
   | inr ne ↦ (let e = (z.refused ne).1 in omega arith)
 ]
 
-module _ (i : ℕ) (s n c v f m : List ℕ) (ready : Ready s n c v f m) (d u : ℕ) where
+module _ (s : Held) (d u : ℕ) where
   abbrev book : Book
-  book = plain_of s n
+  book = plain_of s.book.sets s.book.numbers
 
   numbered : Numbered (asked book (PARTS d u))
   unfolding asked
@@ -200,43 +225,53 @@ module _ (i : ℕ) (s n c v f m : List ℕ) (ready : Ready s n c v f m) (d u : �
 
   parts_low : first_no (asked book (PARTS d u)) ≡ 0 → every low (parts book d u) ≡ true
   parts_low h =
-      let g = passes→good (passes_plain s n ready.passes) in
+      let g = passes→good (passes_plain s.book.sets s.book.numbers s.ready.passes) in
       listed_low (parts book d u)
       (λ x w t. (pair_limits book g d u (has_it h) x w
       (part_has_version book g d u (has_it h) x w (parts_only book g d u (has_it h) x w t))).1)
 
-  pub parts_shown : (old new : List ℕ) (a k depth : ℕ) → length old ≡ 256 → parts_call.Listed s n d u old a k depth new
-      → answer_rows i a (pairs_in c v k new) ≡ lines i (session.asked (state_of s n c v f m) (PARTS d u))
-  parts_shown old new a k depth l z = written ∙ ap (lines i) (sym (asked_is i s n c v f m ready (PARTS d u)))
-    where
-      answer_is : a ≡ first_no (asked book (PARTS d u))
-      answer_is =
-          let e : parts_answer s n d u (length old) ≡ first_no (parts_asked book d u (length old)) =
-          unfold parts_answer in if-true _ _ _ ready.passes in
-          z.answer_is ∙ e ∙ parts-asked (length old) l
+  module _ (old new : List ℕ) (a k depth : ℕ) (l : length old ≡ 256)
+      (z : parts_call.Listed s.book.sets s.book.numbers d u old a k depth new) where
+    answer_is : a ≡ first_no (asked book (PARTS d u))
+    answer_is =
+        let e : parts_answer s.book.sets s.book.numbers d u (length old) ≡ first_no (parts_asked book d u (length old)) =
+        unfold parts_answer in if-true _ _ _ s.ready.passes in
+        z.answer_is ∙ e ∙ parts-asked (length old) l
 
-      accepted : a ≡ 0 → answer_rows i a (pairs_in c v k new) ≡ lines i (shown (tables_of c v f m) (replied_to s n (PARTS d u)))
-      accepted e =
-          let list = z.found e in
-          let h : first_no (asked book (PARTS d u)) ≡ 0 = sym answer_is ∙ e in
-          let same : map row_number (parts book d u) ≡ map row_of (parts book d u) = unfold row_number row_of in refl in
-          ap (λ (b : ℕ). answer_rows i b (pairs_in c v k new)) e
-          ∙ pairs_shown i c v f m (parts book d u) old new k (parts_low h) (list.rows_are ∙ sym (length-map (parts book d u) row_of))
-          (list.out_is ∙ ap (λ (ws : List ℕ). filled ws old) same)
-          ∙ ap (lines i) (as_rows (to_found s n (PARTS d u) ready.passes h))
-        where
-          as_rows : replied_to s n (PARTS d u) ≡ found book (PARTS d u)
-              → rows (map (pair_row (tables_of c v f m)) (parts book d u)) ≡ shown (tables_of c v f m) (replied_to s n (PARTS d u))
-          as_rows e = unfold shown found in ap (shown (tables_of c v f m)) (sym e)
+    abbrev replied_parts : Reply
+    replied_parts = replied_to s.book.sets s.book.numbers (PARTS d u)
 
-      none : (a ≡ 0 → ⊥) → answer_rows i a (pairs_in c v k new) ≡ lines i (shown (tables_of c v f m) (replied_to s n (PARTS d u)))
-      none ne =
-          let e : answer_rows i a (pairs_in c v 0 new) ≡ row i (decimal a) = unfold pairs_in in answer_alone i a in
-          ap (λ (j : ℕ). answer_rows i a (pairs_in c v j new)) (z.refused ne).1 ∙ e
-          ∙ refusal (to_refused s n (PARTS d u) ready.passes a answer_is ne)
-        where
-          refusal : replied_to s n (PARTS d u) ≡ refused a → row i (decimal a) ≡ lines i (shown (tables_of c v f m) (replied_to s n (PARTS d u)))
-          refusal e = unfold lines shown in ap (λ (r : Reply). lines i (shown (tables_of c v f m) r)) (sym e)
+    parts_rows : a ≡ 0 → rows (pairs_in (tables s.names) (take k new)) ≡ shown (tables s.names) replied_parts
+    parts_rows e =
+        let list = z.found e in
+        let h : first_no (asked book (PARTS d u)) ≡ 0 = sym answer_is ∙ e in
+        let same : map row_number (parts book d u) ≡ map row_of (parts book d u) = unfold row_number row_of in refl in
+        ap rows (pairs_shown (tables s.names) (parts book d u) old new k (parts_low h)
+        (list.rows_are ∙ sym (length-map (parts book d u) row_of)) (list.out_is ∙ ap (λ (ws : List ℕ). filled ws old) same))
+        ∙ as_rows (to_found s.book.sets s.book.numbers (PARTS d u) s.ready.passes h)
+      where
+        as_rows : replied_parts ≡ found book (PARTS d u)
+            → rows (map (pair_row (tables s.names)) (parts book d u)) ≡ shown (tables s.names) replied_parts
+        as_rows e = unfold shown found in ap (shown (tables s.names)) (sym e)
 
-      written : answer_rows i a (pairs_in c v k new) ≡ lines i (shown (tables_of c v f m) (replied_to s n (PARTS d u)))
-      written = elim (same? a 0) [ inl e ↦ accepted e | inr ne ↦ none ne ]
+    parts_comes : (m : Found (Bor (List ℕ)) Refusal) → code m ≡ a → IfOk m (λ j. j.now ≡ take k new)
+        → comes_of (listed_in (tables s.names)) m ≡ shown (tables s.names) replied_parts
+    unfolding comes_of listed_in
+    parts_comes (Ok j) e h = ap (λ (ks : List ℕ). rows (pairs_in (tables s.names) ks)) h ∙ parts_rows (sym e)
+    parts_comes (Err r) e h =
+        is_refused ∙ ap (shown (tables s.names)) (sym (to_refused s.book.sets s.book.numbers (PARTS d u) s.ready.passes (number r)
+        (e ∙ answer_is) (no_number_0 r)))
+      where
+        is_refused : refused (number r) ≡ shown (tables s.names) (queries.refused (number r))
+        is_refused = unfold shown in refl
+
+    parts_written : (i : ℕ) (m : Found (Bor (List ℕ)) Refusal) {x y : Writer} → code m ≡ a → IfOk m (λ j. j.now ≡ take k new)
+        → Writes (lines i (comes_of (listed_in (tables s.names)) m)) x y → Writes (lines i (session.asked (plain_state s) (PARTS d u))) x y
+    parts_written i m e h f = writes_as (ap (lines i) (parts_comes m e h ∙ sym (asked_is s (PARTS d u)))) f
+
+pub parts_put : (s : Held) {book : TheBook} → book ≡ s.book → (d u : ℕ) (old new : List ℕ) (a k depth : ℕ) → length old ≡ 256
+    → parts_call.Listed book.sets book.numbers d u old a k depth new → (i : ℕ) (m : Found (Bor (List ℕ)) Refusal) {x y : Writer} → code m ≡ a
+    → IfOk m (λ j. j.now ≡ take k new) → Writes (lines i (comes_of (listed_in (tables s.names)) m)) x y
+    → Writes (lines i (session.asked (plain_state s) (PARTS d u))) x y
+parts_put s same d u old new a k depth l z =
+    parts_written s d u old new a k depth l (subst (λ (b : TheBook). parts_call.Listed b.sets b.numbers d u old a k depth new) same z)

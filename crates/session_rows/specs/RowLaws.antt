@@ -1,29 +1,27 @@
 -- Laws of the rows of an answer, and of the loops that write them.
-use Rattle.std.specs.Prelude.{Bool, Err, Ok, Result, ◌≡◌, get_or, length, take}
+use Rattle.std.specs.Prelude.{Bool, Err, None, Ok, Option, Result as Found, Some, ◌≡◌, get_or, length}
+use Rattle.std.specs.Result.{result_ok}
 use Rattle.std.proofs.Math.Bool.{false, true}
 use mathlib.Core.List.{List, [], ◌++◌, ◌∷◌, map}
-use Rattle.std.proofs.Common.{append-nil, ◌∙◌, subst, sym, drop_of_length-le, drop-cons, get_or-take, length-take-le}
-use Rattle.std.proofs.Math.Path.{ap, ap₂, refl}
+use Rattle.std.proofs.Common.{append-nil, ◌∙◌, sym, drop_of_length-le, drop-cons}
+use Rattle.std.proofs.Math.Path.{ap, refl}
 use Prim.Native.Nat.{◌%◌, ◌+◌, ◌-◌, ◌/◌, ◌<◌, ◌≤◌, suc, ℕ}
 use native.Mathlib.Omega.{arith}
 use Rattle.std.proofs.Math.ListN.{drop}
-use Rattle.write_bytes.specs.Written.{pair_of}
 use Rattle.write_bytes.specs.Writes.{Writes}
 use Rattle.write_bytes.specs.WritesLaws.{WritesPartly, writes_as, writes_none, writes_then, writing_as, writing_end, writing_more, writing_start}
 use Rattle.write_bytes.specs.declared.writer.Writer.{Writer}
 use Rattle.model.specs.Lists.{from, keep, rising}
-use Rattle.model_laws.specs.RisingLaws.{rising_narrow}
 use Rattle.query_replies.specs.Replied.{numbers_in}
-use Rattle.refusal.specs.Numbers.{code, found, number}
+use Rattle.refusal.specs.Numbers.{code}
 use Rattle.refusal.specs.declared.Refusal.{Refusal}
-use Rattle.sets.specs.SetLaws.{bit_zero}
 use Rattle.sets.specs.Sets.{bit}
 use Rattle.sets.specs.TestLaws.{if-false, if-true}
 use Rattle.sets.specs.Tests.{if?◌then◌else◌}
 use Rattle.text.specs.Bytes.{Text}
-use Rattle.text.specs.Session.{decimal, row}
-use Rattle.text.specs.Tables.{Table, joined, name_at}
-use Rattle.session_rows.specs.Rows.{answer_rows, names_in, pair_in, pairs_in, rows_of}
+use Rattle.text.specs.Session.{decimal, lines, pair_row, row}
+use Rattle.text.specs.Tables.{Table, Tables, joined, name_at}
+use Rattle.session_rows.specs.Rows.{comes_of, names_in, one_of, pair_in, pairs_in, rows_of}
 
 -- ---- the numbers of a set
 
@@ -66,72 +64,55 @@ module _ (i : ℕ) (t : Table) (set : ℕ) where
     set_end h = let e : 64 - k ≡ 0 = omega arith in
         writing_end (writing_as (ap (λ (m : ℕ). rows_of i (map (name_at t) (from m k (bit set)))) e) f)
 
-pub no_numbers : (t : Table) → names_in t 0 ≡ []
-unfolding names_in numbers_in
-no_numbers t = ap (map (name_at t)) (rising_narrow 0 64 (bit 0) (bit 0) (omega arith) (λ d l. refl) (λ d l. bit_zero d) ∙ nothing)
-  where
-    nothing : rising 0 (bit 0) ≡ []
-    nothing = unfold rising from in refl
+-- ---- an answer, with the rows of what was found
 
--- ---- an answer with its rows
+module _ {A : Type 0} (i : ℕ) (ws : A → List Text) {x y : Writer} where
+  -- by the row of the answer
+  pub rows_put : (r : Found A Refusal) (v : A) → Some v ≡ result_ok r → {z : Writer} → Writes (row i (decimal (code r))) x y
+      → Writes (rows_of i (ws v)) y z → Writes (lines i (comes_of ws r)) x z
+  unfolding lines comes_of rows_of
+  rows_put (Ok u) v e {z = z} f g =
+      writes_as (ap (λ (o : Option A). elim o [ Some w ↦ row i (decimal 0) ++ rows_of i (ws w) | None ↦ [] ]) e)
+      (writes_then f g)
+  rows_put (Err e) v q f g = cc
 
-pub answer_alone : (i a : ℕ) → answer_rows i a [] ≡ row i (decimal a)
-unfolding answer_rows rows_of joined
-answer_alone i a = append-nil (row i (decimal a))
+  pub rows_none : (r : Found A Refusal) → None ≡ result_ok r → Writes (row i (decimal (code r))) x y → Writes (lines i (comes_of ws r)) x y
+  unfolding lines comes_of
+  rows_none (Ok u) e f = cc
+  rows_none (Err e) q f = f
 
--- the rows `ws x` of what was found, of which there are none where x is 0
-module _ (i : ℕ) (ws : ℕ → List Text) {r : Result ℕ Refusal} {x y : Writer} where
-  pub answer_put : (n : ℕ) → r ≡ Ok n → {z : Writer} → Writes (row i (decimal 0)) x y → Writes (rows_of i (ws n)) y z
-      → Writes (answer_rows i (code r) (ws (found r))) x z
-  answer_put n e {z = z} f g = subst (λ (q : Result ℕ Refusal). Writes (answer_rows i (code q) (ws (found q))) x z) (sym e) both
-    where
-      both : Writes (answer_rows i 0 (ws n)) x z
-      both = unfold answer_rows in writes_then f g
-
-  pub answer_refused : ws 0 ≡ [] → (e : Refusal) → r ≡ Err e → Writes (row i (decimal (number e))) x y
-      → Writes (answer_rows i (code r) (ws (found r))) x y
-  answer_refused none e d f =
-      subst (λ (q : Result ℕ Refusal). Writes (answer_rows i (code q) (ws (found q))) x y) (sym d)
-      (writes_as (sym (ap (answer_rows i (number e)) none ∙ answer_alone i (number e))) f)
+pub one_put : (i : ℕ) (t : Table) (k : ℕ) {a b : Writer} → Writes (row i (name_at t k)) a b → Writes (rows_of i (one_of t k)) a b
+unfolding rows_of one_of joined
+one_put i t k f = writes_as (sym (append-nil (row i (name_at t k)))) f
 
 -- ---- pairs
 
-pub pair_put : (i : ℕ) (comps vers : List ℕ) {k x : ℕ} → k ≡ x → {a b : Writer} → Writes (row i (pair_of comps vers (k / 64) (k % 64))) a b
-    → Writes (row i (pair_in comps vers x)) a b
+pub pair_put : (i : ℕ) (t : Tables) {k x : ℕ} → k ≡ x → {a b : Writer} → Writes (row i (pair_row t (k / 64, k % 64))) a b
+    → Writes (row i (pair_in t x)) a b
 unfolding pair_in
-pair_put i comps vers e f = writes_as (ap (λ (n : ℕ). row i (pair_of comps vers (n / 64) (n % 64))) e) f
-
-pub no_pairs : (comps vers rows : List ℕ) → pairs_in comps vers 0 rows ≡ []
-unfolding pairs_in
-no_pairs comps vers rows = refl
+pair_put i t e f = writes_as (ap (λ (n : ℕ). row i (pair_row t (n / 64, n % 64))) e) f
 
 -- those from k on are to come
-module _ (i : ℕ) (comps vers : List ℕ) (n : ℕ) (rows : List ℕ) where
+module _ (i : ℕ) (t : Tables) (ks : List ℕ) where
   unfoldable pub pairs_from : ℕ → Text
-  pairs_from k = rows_of i (map (pair_in comps vers) (drop k (take n rows)))
+  pairs_from k = rows_of i (map (pair_in t) (drop k ks))
 
-  pub pairs_start : (a : Writer) → WritesPartly (rows_of i (pairs_in comps vers n rows)) (pairs_from 0) a a
+  pub pairs_start : (a : Writer) → WritesPartly (rows_of i (pairs_in t ks)) (pairs_from 0) a a
   unfolding pairs_in pairs_from
   pairs_start a = writing_start _ a
 
-  module _ (k : ℕ) (h : n ≤ length rows) {a b : Writer} (f : WritesPartly (rows_of i (pairs_in comps vers n rows)) (pairs_from k) a b) where
-    long : length (take n rows) ≡ n
-    long = length-take-le n rows h
-
-    pairs_next : k < n → pairs_from k ≡ row i (pair_in comps vers (get_or rows k 0)) ++ pairs_from (k + 1)
+  module _ (k : ℕ) {a b : Writer} (f : WritesPartly (rows_of i (pairs_in t ks)) (pairs_from k) a b) where
+    pairs_next : k < length ks → pairs_from k ≡ row i (pair_in t (get_or ks k 0)) ++ pairs_from (k + 1)
     unfolding pairs_from rows_of joined
     pairs_next l =
         let e : suc k ≡ k + 1 = omega arith in
-        ap (λ (xs : List ℕ). rows_of i (map (pair_in comps vers) xs))
-        (drop-cons (take n rows) k 0 (subst (λ (m : ℕ). k < m) (sym long) l)
-        ∙ ap₂ (λ (x : ℕ) (xs : List ℕ). x ∷ xs) (get_or-take n rows k 0 l) (ap (λ (m : ℕ). drop m (take n rows)) e))
+        ap (λ (xs : List ℕ). rows_of i (map (pair_in t) xs))
+        (drop-cons ks k 0 l ∙ ap (λ (m : ℕ). get_or ks k 0 ∷ drop m ks) e)
 
-    pub pairs_turn : {c : Writer} → k < n → Writes (row i (pair_in comps vers (get_or rows k 0))) b c
-        → WritesPartly (rows_of i (pairs_in comps vers n rows)) (pairs_from (k + 1)) a c
+    pub pairs_turn : {c : Writer} → k < length ks → Writes (row i (pair_in t (get_or ks k 0))) b c
+        → WritesPartly (rows_of i (pairs_in t ks)) (pairs_from (k + 1)) a c
     pairs_turn l g = writing_more (writing_as (pairs_next l) f) g
 
-    pub pairs_end : n ≤ k → Writes (rows_of i (pairs_in comps vers n rows)) a b
+    pub pairs_end : length ks ≤ k → Writes (rows_of i (pairs_in t ks)) a b
     unfolding pairs_from rows_of joined
-    pairs_end l =
-        writing_end (writing_as (ap (λ (xs : List ℕ). rows_of i (map (pair_in comps vers) xs))
-        (drop_of_length-le (take n rows) (subst (λ (m : ℕ). m ≤ k) (sym long) l))) f)
+    pairs_end l = writing_end (writing_as (ap (λ (xs : List ℕ). rows_of i (map (pair_in t) xs)) (drop_of_length-le ks l)) f)

@@ -2,113 +2,120 @@
 // specs/Asked.antt.
 #![tactic(auto)]
 
-ghost use Rattle.std.specs.Prelude.{◌≡◌, [], ◌*◌, ◌<◌, ◌≤◌, length};
+ghost use Rattle.std.specs.Prelude.{◌≡◌, []};
+ghost use Rattle.std.specs.Result.{result_ok};
 ghost use Rattle.sets.specs.Sets.{bit};
 ghost use Rattle.sets.specs.Tests.{if?◌then◌else◌};
-ghost use Rattle.text.specs.Session.{decimal, row};
-ghost use Rattle.refusal.specs.Numbers.{code, found, number};
+ghost use Rattle.text.specs.Session.{decimal, lines, row};
+ghost use Rattle.refusal.specs.Numbers.{code, number};
 ghost use Rattle.text.specs.Tables.{name_at};
-ghost use Rattle.names.specs.Stored.{table_of};
+ghost use Rattle.names.specs.Stored.{table_in, tables};
 ghost use Rattle.write_bytes.specs.Writes.{Writes};
-ghost use Rattle.session_rows.specs.Rows.{answer_rows, names_in, pair_in, pairs_in, rows_of};
+ghost use Rattle.session_rows.specs.Rows.{comes_of, listed_in, names_in, one_of, pair_in, pairs_in, rows_of};
 
+use names::{Names, Table};
 use refusal::Refusal;
 use write_bytes::Writer;
 
-// ---- rows
-
-// The row of number k, if it is in the set.
-fn put_if_member(writer: &mut Writer<'_>, i: usize, names: &[u8], places: usize, set: u64, k: usize)
-    requires names_len { length names.now ≡ places * 33 }
-    requires k_bound { k < 64 }
-    ensures { Writes (if? bit set k then row i (name_at (table_of places names.now) k) else []) writer.old writer.new }
-{
-    if sets::member(set, k) {
-        write_rows::put_name_row(writer, i, names, places, k);
-    }
-}
-
-// The rows of the numbers of a set, rising.
-fn put_set(writer: &mut Writer<'_>, i: usize, names: &[u8], places: usize, set: u64)
-    requires { length names.now ≡ places * 33 }
-    ensures { Writes (rows_of i (names_in (table_of places names.now) set)) writer.old writer.new }
-{
-    for k in 0..64 {
-        put_if_member(writer, i, names, places, set, k);
-    }
-}
-
-// The answer of a refused query.
+// The row of a refusal.
 pub fn put_refusal(writer: &mut Writer<'_>, i: usize, refusal: Refusal)
     ensures { Writes (row i (decimal (number refusal))) writer.old writer.new }
 {
     write_rows::put_answer_row(writer, i, usize::from(refusal.number()));
 }
 
-// The answer of a query for facilities or components, which has no rows where it is refused.
-pub fn put_numbers(
+// The row of an answer. It gives what was replied, where it is not refused.
+pub fn put_answer<T: Copy>(
     writer: &mut Writer<'_>,
     i: usize,
-    names: &[u8],
-    places: usize,
+    reply: Result<T, Refusal>,
+) -> Option<T>
+    ensures value { result ≡ result_ok reply }
+    ensures puts { Writes (row i (decimal (code reply))) writer.old writer.new }
+{
+    write_rows::put_answer_row(writer, i, usize::from(refusal::code(reply.map(|_| ()))));
+    reply.ok()
+}
+
+// ---- numbers
+
+// The row of number k, if it is in the set.
+fn put_if_member<const P: usize>(
+    writer: &mut Writer<'_>,
+    i: usize,
+    names: &Table<P>,
+    set: u64,
+    k: usize,
+)
+    ensures { Writes (if? bit set k then row i (name_at (table_in names.now) k) else []) writer.old writer.new }
+{
+    if sets::member(set, k) {
+        write_rows::put_name_row(writer, i, names, k);
+    }
+}
+
+// The rows of the numbers of a set, rising.
+fn put_set<const P: usize>(writer: &mut Writer<'_>, i: usize, names: &Table<P>, set: u64)
+    ensures { Writes (rows_of i (names_in (table_in names.now) set)) writer.old writer.new }
+{
+    for k in 0..64 {
+        put_if_member(writer, i, names, set, k);
+    }
+}
+
+// The answer of a query for facilities or components. The three functions for a reply differ in the rows that they put: one of them with a
+// closure for these would be no shorter.
+pub fn put_numbers<const P: usize>(
+    writer: &mut Writer<'_>,
+    i: usize,
+    names: &Table<P>,
     reply: Result<u64, Refusal>,
 )
-    requires { length names.now ≡ places * 33 }
-    ensures { Writes (answer_rows i (code reply) (names_in (table_of places names.now) (found reply))) writer.old writer.new }
+    ensures { Writes (lines i (comes_of (names_in (table_in names.now)) reply)) writer.old writer.new }
 {
-    match reply {
-        Ok(set) => {
-            write_rows::put_answer_row(writer, i, 0);
-            put_set(writer, i, names, places, set);
-        }
-        Err(refusal) => put_refusal(writer, i, refusal),
+    if let Some(set) = put_answer(writer, i, reply) {
+        put_set(writer, i, names, set);
     }
 }
 
-// The row of a pair, which is component × 64 + version.
-fn put_pair(writer: &mut Writer<'_>, i: usize, comps: &[u8; 1056], vers: &[u8; 2112], pair: u16)
-    ensures { Writes (row i (pair_in comps.now vers.now pair)) writer.old writer.new }
-{
-    let k = usize::from(pair);
-    let c = k / 64;
-    let v = k % 64;
-    write_rows::put_pair_row(writer, i, comps, vers, c, v);
-}
-
-// The rows of the first pairs of a slice.
-fn put_pairs(
+// The answer of a query for a version: as put_numbers, with a row of its own.
+pub fn put_version(
     writer: &mut Writer<'_>,
     i: usize,
-    comps: &[u8; 1056],
-    vers: &[u8; 2112],
-    rows: &[u16],
-    count: usize,
-)
-    requires { count ≤ length rows.now }
-    ensures { Writes (rows_of i (pairs_in comps.now vers.now count rows.now)) writer.old writer.new }
-{
-    for k in 0..count {
-        put_pair(writer, i, comps, vers, rows[k]);
-    }
-}
-
-// The answer of a query for pairs, which are the first of a slice; it has no rows where it is refused.
-pub fn put_listed(
-    writer: &mut Writer<'_>,
-    i: usize,
-    comps: &[u8; 1056],
-    vers: &[u8; 2112],
-    rows: &[u16],
+    vers: &Table<64>,
     reply: Result<usize, Refusal>,
 )
-    requires { found reply ≤ length rows.now }
-    ensures { Writes (answer_rows i (code reply) (pairs_in comps.now vers.now (found reply) rows.now)) writer.old writer.new }
+    ensures { Writes (lines i (comes_of (one_of (table_in vers.now)) reply)) writer.old writer.new }
 {
-    match reply {
-        Ok(count) => {
-            write_rows::put_answer_row(writer, i, 0);
-            put_pairs(writer, i, comps, vers, rows, count);
-        }
-        Err(refusal) => put_refusal(writer, i, refusal),
+    if let Some(v) = put_answer(writer, i, reply) {
+        write_rows::put_name_row(writer, i, vers, v);
+    }
+}
+
+// ---- pairs
+
+// The row of a pair, which is component × 64 + version, as the calls for "choice" and "parts" write it into a slice.
+fn put_pair(writer: &mut Writer<'_>, i: usize, names: &Names, pair: u16)
+    ensures { Writes (row i (pair_in (tables names.now) pair)) writer.old writer.new }
+{
+    let k = usize::from(pair);
+    write_rows::put_pair_row(writer, i, names, k / 64, k % 64);
+}
+
+// The rows of pairs.
+fn put_pairs(writer: &mut Writer<'_>, i: usize, names: &Names, pairs: &[u16])
+    ensures { Writes (rows_of i (pairs_in (tables names.now) pairs.now)) writer.old writer.new }
+{
+    for &pair in pairs {
+        put_pair(writer, i, names, pair);
+    }
+}
+
+// The answer of a query for pairs: as put_numbers, with rows of its own.
+pub fn put_listed(writer: &mut Writer<'_>, i: usize, names: &Names, reply: Result<&[u16], Refusal>)
+    ensures { Writes (lines i (comes_of (listed_in (tables names.now)) reply.entry)) writer.old writer.new }
+{
+    if let Some(pairs) = put_answer(writer, i, reply) {
+        put_pairs(writer, i, names, pairs);
     }
 }

@@ -11,7 +11,7 @@ use read_tokens::Reader;
 use session_state::State;
 use write_bytes::Writer;
 
-// The session of the rest of the text, on a book and tables that are empty: "each command is read from the rest of the text after the
+// The session of the rest of the text, on a book and tables that are empty. "Each command is read from the rest of the text after the
 // one before". It gives the room that is left in the slice, if all did fit.
 pub fn run_from(reader: Reader<'_>, state: &mut State, out: &mut [u8]) -> Option<usize>
     requires { plain_state state.old ≡ fresh }

@@ -15,7 +15,7 @@ use session_ask_version::show_version;
 use session_state::State;
 use write_bytes::Writer;
 
-// A query of a component, or of a component and a version.
+// A query of a component, or of a component and a version: each is read by a production of its own, so the match names them.
 fn show_named(
     writer: &mut Writer<'_>,
     i: usize,
@@ -33,7 +33,7 @@ fn show_named(
     }
 }
 
-// Any query.
+// Any query: each kind is read by a production of its own, so the match names them.
 pub fn show(
     writer: &mut Writer<'_>,
     i: usize,

@@ -1,17 +1,16 @@
 -- The three ways of a step: the session is over, what comes next is not of the language, or it is a command.
-use Rattle.std.specs.Prelude.{Bool, IsNone, None, Option, Some, false, true, List, [], ◌++◌, ◌≡◌, ◌≤◌, suc, ℕ, drop, length}
+use Rattle.std.specs.Prelude.{IsNone, None, Option, Some, false, true, List, [], ◌++◌, ◌≡◌, ◌≤◌, suc, ℕ, drop, length}
 use Rattle.std.proofs.Common.{◌∙◌, sym, arith}
-use Rattle.std.proofs.Math.Option.{none}
 use Rattle.std.proofs.Math.Path.{ap, refl, subst}
 use Rattle.std.proofs.Math.ListN.{length-drop}
 use Rattle.read_tokens.specs.Readers.{Got}
 use Rattle.read_tokens.specs.declared.reader.Reader.{Reader}
-use Rattle.write_bytes.specs.Room.{Puts, Room, room_of}
+use Rattle.write_bytes.specs.Room.{Puts, Room}
 use Rattle.write_bytes.specs.RoomLaws.{puts_none}
 use Rattle.write_bytes.specs.Writes.{Writes}
 use Rattle.write_bytes.specs.declared.writer.Writer.{Writer}
 use Rattle.sets.specs.TestLaws.{clash}
-use Rattle.session_state.specs.Carried.{Carried, CarriedBy, Decides}
+use Rattle.session_state.specs.Carried.{Carried, Decides}
 use Rattle.session_state.specs.CarriedLaws.{decides_carried}
 use Rattle.text.specs.Bytes.{Text}
 use Rattle.text.specs.Language.{Read, Reader as Production, Said, command, over, read_as, said, wrong}
@@ -24,7 +23,7 @@ use Rattle.read_command.specs.declared.Command.{Command}
 use Rattle.read_command.specs.declared.Query.{Query}
 use Rattle.read_command.specs.declared.Form.{Form}
 use Rattle.read_command.specs.declared.Form.TheVariants.{Asks, Changes, Over}
-use Rattle.session_step.specs.Stepped.{Behind, BehindOf, StepOf, Stepped, end, more, session_of}
+use Rattle.session_step.specs.Stepped.{BehindOf, StepOf, Stepped, session_of}
 
 as_read : (i : ℕ) (s : State) (t : Text) (r : Read) → command t ≡ r
     → session_of i s t ≡ on_read (λ s' u. session_from (length u) (suc i) s' u) i s r
@@ -79,14 +78,14 @@ module _ (i : ℕ) (t : Text) (s : State) (p : Room) (old : List ℕ) where
 -- ---- behind the first word
 
 module _ {k : Production Said} {i : ℕ} {r : Reader} {s s' : State} {w w' : Writer} where
-  pub behind_decided : {a n e : ℕ} → Got k (Decides s s' a) r.text.now r.at e → n ≡ a → Writes (row i (decimal n)) w w'
+  pub behind_decided : {a e : ℕ} → Got k (Decides s s' a) r.text.now r.at e → Writes (row i (decimal a)) w w'
       → BehindOf k i r s s' w w' (Some e)
-  behind_decided {a} {n} g m p = record {
+  behind_decided {a} g p = record {
     behind = record {
       read = λ y. record {
         value = g.value;
         is = g.is;
-        took = decides_carried i a s s' _ _ _ _ g.value g.took (rw m at p.puts);
+        took = decides_carried i a s s' _ _ _ _ g.value g.took p.puts;
         from = g.from;
         inside = g.inside;
       };

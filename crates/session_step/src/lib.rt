@@ -1,7 +1,7 @@
 // One step of a session: the next command of the text is read and carried out.
 #![tactic(auto)]
 
-ghost use Rattle.std.specs.Prelude.{◌≡◌, IsNone};
+ghost use Rattle.std.specs.Prelude.{IsNone};
 ghost use Rattle.text.specs.Session.{decimal, row};
 ghost use Rattle.write_bytes.specs.Writes.{Writes};
 ghost use Rattle.session_state.specs.State.{plain_state};
@@ -19,7 +19,7 @@ fn refuse(writer: &mut Writer<'_>, i: usize) -> Option<usize>
     ensures none { IsNone result }
     ensures puts { Writes (row i (decimal 23)) writer.old writer.new }
 {
-    write_rows::put_answer_row(writer, i, usize::from(Refusal::NotOfTheLanguage.number()));
+    session_rows::put_refusal(writer, i, Refusal::NotOfTheLanguage);
     None
 }
 
@@ -36,7 +36,7 @@ fn change(
     let Some(answer) = session_decide::decide(state, reader, command) else {
         return refuse(writer, i);
     };
-    write_rows::put_answer_row(writer, i, usize::from(refusal::code(answer)));
+    session_rows::put_answer(writer, i, answer);
     Some(reader.at)
 }
 
@@ -57,7 +57,8 @@ fn ask(
 }
 
 // The next command, the i-th, which is read from the rest of the text after the one before: its rows, and its change of book and tables.
-// It gives the position in the rest from which the session goes on, if it does.
+// It gives the position in the rest from which the session goes on, if it does. What the first word begins is read and carried out in
+// another way for each of the three cases, so the match names them.
 pub fn step(state: &mut State, rest: &[u8], i: usize, writer: &mut Writer<'_>) -> Option<usize>
     ensures { StepOf i rest.now (plain_state state.old) (plain_state state.new) writer.old writer.new result }
 {

@@ -3,4 +3,5 @@ pub mod TestLaws
 pub mod Sets
 pub mod SetLaws
 pub mod LoopLaws
+pub mod RangeLaws
 pub mod Answered

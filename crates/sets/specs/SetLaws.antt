@@ -8,7 +8,7 @@ use Rattle.std.proofs.Math.Arith.{digits_mod, lt-one}
 use Rattle.std.proofs.lemmas.Nat.{and_le_l, and_shr, or_shr, xor_shr}
 use Rattle.std.specs.Int.Bits.{and_step, bit_and, bit_or, bit_xor, differ, or_step, shifted_even, shifted_half, xor_step}
 use Rattle.std.specs.Int.Count.{ones, ones_step}
-use Rattle.std.proofs.Math.Dec.{eqb-suc-suc, eqb-suc-zero, eqb-zero-suc}
+use Rattle.std.proofs.Math.Dec.{eqb-suc-suc, eqb-suc-zero, eqb-zero-suc, ltb}
 use Rattle.std.proofs.Math.Pow.{field, mod-mod-pow}
 use borrow.Author.Tests.{eq-eqb, eqb-true}
 use Rattle.sets.specs.Sets.{Set, below, bit, disjoint, meet, minus, subset, union, with, without}
@@ -80,9 +80,9 @@ xor_odd a b = ap (λ (x : ℕ). x % 2) (xor_step a b) ∙ digits_mod _ (differ_l
 
 -- ---- the operations on numbers, digit by digit
 
-pub bit-or : (a b : ℕ) → bit (bit_or a b) ≡ union (bit a) (bit b)
+pub bit_union : (a b : ℕ) → bit (bit_or a b) ≡ union (bit a) (bit b)
 unfolding bit union
-bit-or a b = fun_ext (λ f.
+bit_union a b = fun_ext (λ f.
     ap (λ (x : ℕ). x % 2 =? 1) (or_shr a b f) ∙ ap (λ (x : ℕ). x =? 1) (or_odd (a / 2 ^ f) (b / 2 ^ f))
     ∙ digit_or (a / 2 ^ f % 2) (b / 2 ^ f % 2) (mod-lt _ two_pos) (mod-lt _ two_pos))
 
@@ -122,6 +122,11 @@ pub bit_high : (k s f : ℕ) → s < 2 ^ k → k ≤ f → bit s f ≡ false
 unfolding bit ◌=?◌
 bit_high k s f h l = rw (div-eq_of_lt (lt_of_lt_of_le h (pow_mono l))) refl
 
+-- A test of f against the width k, where f is not below it, answers for the digit.
+pub bit_past : (k s f : ℕ) → s < 2 ^ k → k ≤ f → ltb f k ≡ bit s f
+unfolding ◌<?◌
+bit_past k s f h l = fails (f <? k) (λ t. omega (arith, <?_out f k t, l)) ∙ sym (bit_high k s f h l)
+
 mod_digit : (k s f : ℕ) → f < k → bit (s % 2 ^ k) f ≡ bit s f
 unfolding bit
 mod_digit k s f l =
@@ -151,7 +156,7 @@ or_xor false false = refl
 pub bit_minus : (a b : ℕ) → bit (bit_xor (bit_or a b) b) ≡ minus (bit a) (bit b)
 unfolding minus union
 bit_minus a b = fun_ext (λ f.
-    bit-xor (bit_or a b) b f ∙ ap (λ (x : Bool). not (beq x (bit b f))) (ap (λ (s : Set). s f) (bit-or a b)) ∙ or_xor (bit a f) (bit b f))
+    bit-xor (bit_or a b) b f ∙ ap (λ (x : Bool). not (beq x (bit b f))) (ap (λ (s : Set). s f) (bit_union a b)) ∙ or_xor (bit a f) (bit b f))
 
 -- ---- tests of two sets, by one operation on their numbers
 
@@ -159,15 +164,15 @@ module _ (k a b : ℕ) (ha : a < 2 ^ k) where
   and_below : bit_and a b < 2 ^ k
   and_below = lt_of_le_of_lt (and_le_l a b) ha
 
-  pub and-subset : eqb (bit_and a b) a ≡ subset k (bit a) (bit b)
+  pub subset_by_and : eqb (bit_and a b) a ≡ subset k (bit a) (bit b)
   unfolding subset
-  and-subset = iff→≡ _ _
+  subset_by_and = iff→≡ _ _
       (λ e. all_in k _ (λ f l. imp_in _ _ (λ t. and_r _ _ (sym (bit-and a b f) ∙ ap (λ (x : ℕ). bit x f) (eqb-true _ _ e) ∙ t))))
       (λ w. eq-eqb _ _ (bit_ext k (bit_and a b) a and_below ha (λ f l. bit-and a b f ∙ and_absorb _ _ (imp_out _ _ (all_out k _ w f l)))))
 
-  pub and-disjoint : eqb (bit_and a b) 0 ≡ disjoint k (bit a) (bit b)
+  pub disjoint_by_and : eqb (bit_and a b) 0 ≡ disjoint k (bit a) (bit b)
   unfolding disjoint
-  and-disjoint = iff→≡ _ _
+  disjoint_by_and = iff→≡ _ _
       (λ e. all_in k _ (λ f l. imp_in _ _ (λ t. not_in _ (sym (and-true _ _ t) ∙ sym (bit-and a b f) ∙ ap (λ (x : ℕ). bit x f) (eqb-true _ _ e) ∙ bit_zero f))))
       (λ w. eq-eqb _ _ (bit_ext k (bit_and a b) 0 and_below (pow_pos k)
       (λ f l. bit-and a b f ∙ and_no _ _ (λ t. not_out _ (imp_out _ _ (all_out k _ w f l) t)) ∙ sym (bit_zero f))))
@@ -177,10 +182,6 @@ module _ (k n : ℕ) (a b : Set) (l : k ≤ n) (low : (f : ℕ) → k ≤ f → 
   pub subset_width : subset n a b ≡ subset k a b
   unfolding subset
   subset_width = all_width k n _ l (λ f h. imp_in _ _ (λ t. clash t (low f h)))
-
-  pub disjoint_width : disjoint n a b ≡ disjoint k a b
-  unfolding disjoint
-  disjoint_width = all_width k n _ l (λ f h. imp_in _ _ (λ t. clash t (low f h)))
 
 -- some number is in both sets where they are not disjoint
 pub meet-disjoint : (k : ℕ) (a b : Set) → meet k a b ≡ (~ disjoint k a b)
@@ -204,7 +205,7 @@ bit_one f g l = ap (λ (x : ℕ). bit x g) (shl_exact 1 f 64 (lit< tt) (omega ar
 
 pub bit_with : (s f : ℕ) → f < 64 → bit (bit_or s (1 * 2 ^ f % 2 ^ 64)) ≡ with (bit s) f
 unfolding with
-bit_with s f l = bit-or s _ ∙ unfold union in fun_ext (λ g. or_swap _ _ ∙ ap (λ (x : Bool). x or bit s g) (bit_one f g l))
+bit_with s f l = bit_union s _ ∙ unfold union in fun_ext (λ g. or_swap _ _ ∙ ap (λ (x : Bool). x or bit s g) (bit_one f g l))
 
 pub bit_without : (s f : ℕ) → f < 64 → bit (bit_xor (bit_or s (1 * 2 ^ f % 2 ^ 64)) (1 * 2 ^ f % 2 ^ 64)) ≡ without (bit s) f
 unfolding without with

@@ -68,6 +68,13 @@ unfolding ◌&◌
 and_no true b h = h refl
 and_no false b h = refl
 
+-- `a && b` in the code: b is asked where a passes
+pub and_asked : (p q : Bool) {a b : Bool} → a ≡ p → a ≡ true → b ≡ q → b ≡ (p & q)
+and_asked p q e t f = f ∙ sym (and-true p q (sym e ∙ t))
+
+pub and_unasked : (p q : Bool) {a : Bool} → a ≡ p → a ≡ false → a ≡ (p & q)
+and_unasked p q e t = t ∙ sym (and-false p q (sym e ∙ t))
+
 pub or_out : (a b : Bool) → (a or b) ≡ true → (a ≡ true) ⊎ (b ≡ true)
 unfolding ◌or◌
 or_out true b t = inl refl

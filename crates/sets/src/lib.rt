@@ -6,22 +6,29 @@ ghost use Rattle.sets.specs.Tests as tests;
 ghost use Rattle.sets.specs.Sets.{bit};
 ghost use Rattle.sets.specs.Sets as sets;
 
-// f is in the set s.
+mod below;
+
+pub use below::{all, those, union_of};
+
+// f is in the set s: a number of 64 or more is in no set.
+// A set is a u64, as the calls' interface gives it. Two sets, here and below, or a set and a number: no type holds both.
 pub fn member(s: u64, f: usize) -> bool
-    requires { f < 64 }
     ensures { result ≡ bit s f }
 {
-    (s >> f) % 2 == 1
+    f < 64 && (s >> f) % 2 == 1
 }
 
 // The numbers of either set.
+#[tactic(auto, using(crate::specs::SetLaws::bit_union))]
 pub fn union(a: u64, b: u64) -> u64
     ensures { bit result ≡ sets.union (bit a) (bit b) }
 {
     a | b
 }
 
-// The set s and the number f.
+// The set s and the number f: a number of 64 or more has no digit in a u64.
+// A set and a number: no type holds both.
+#[tactic(auto, using(crate::specs::SetLaws::bit_with))]
 pub fn with(s: u64, f: usize) -> u64
     requires { f < 64 }
     ensures { bit result ≡ sets.with (bit s) f }
@@ -29,7 +36,9 @@ pub fn with(s: u64, f: usize) -> u64
     s | 1 << f
 }
 
-// The set s but for the number f.
+// The set s but for the number f: a number of 64 or more has no digit in a u64.
+// A set and a number: no type holds both.
+#[tactic(auto, using(crate::specs::SetLaws::bit_without))]
 pub fn without(s: u64, f: usize) -> u64
     requires { f < 64 }
     ensures { bit result ≡ sets.without (bit s) f }
@@ -38,20 +47,16 @@ pub fn without(s: u64, f: usize) -> u64
 }
 
 // The numbers of the set s that are below 32.
+#[tactic(auto, using(crate::specs::SetLaws::bit_mod))]
 pub fn below_32(s: u64) -> u64
     ensures { bit result ≡ sets.below 32 (bit s) }
 {
     s % 4294967296
 }
 
-// The set s itself: all its numbers are below 64.
-pub fn below_64(s: u64) -> u64
-    ensures { bit result ≡ sets.below 64 (bit s) }
-{
-    s
-}
-
 // The numbers of a that are not in b.
+// Two sets: no type holds both.
+#[tactic(auto, using(crate::specs::SetLaws::bit_minus))]
 pub fn minus(a: u64, b: u64) -> u64
     ensures { bit result ≡ sets.minus (bit a) (bit b) }
 {
@@ -59,6 +64,7 @@ pub fn minus(a: u64, b: u64) -> u64
 }
 
 // Each number of a is in b.
+#[tactic(auto, using(crate::specs::SetLaws::subset_by_and))]
 pub fn subset(a: u64, b: u64) -> bool
     ensures { result ≡ sets.subset 64 (bit a) (bit b) }
 {
@@ -66,6 +72,8 @@ pub fn subset(a: u64, b: u64) -> bool
 }
 
 // No number is in both.
+// Two sets: no type holds both.
+#[tactic(auto, using(crate::specs::SetLaws::disjoint_by_and))]
 pub fn disjoint(a: u64, b: u64) -> bool
     ensures { result ≡ sets.disjoint 64 (bit a) (bit b) }
 {
@@ -73,6 +81,7 @@ pub fn disjoint(a: u64, b: u64) -> bool
 }
 
 // How many numbers the set s holds.
+#[tactic(auto, using(crate::specs::SetLaws::ones_count))]
 pub fn count(s: u64) -> u32
     ensures { result ≡ tests.count 64 (bit s) }
 {

@@ -1,5 +1,5 @@
 -- What a session leaves, whether its listing fits the slice or not; and the state that it begins with.
-use Rattle.std.specs.Prelude.{Bool, None, Option, Result, Some, not, ok_or, List, [], ◌++◌, ◌≡◌, ◌*◌, ◌+◌, ◌-◌, ◌<◌, ◌≤◌, ℕ, negsuc, take}
+use Rattle.std.specs.Prelude.{Bool, None, Option, Result, Some, not, ok_or, List, [], ◌++◌, ◌≡◌, ◌+◌, ◌-◌, ◌<◌, ◌≤◌, ℕ, negsuc, take}
 use Rattle.std.proofs.Math.Bool.{false, true}
 use Rattle.std.proofs.Math.Logic.{◌⊎◌, inl, inr}
 use Rattle.std.proofs.Common.{◌∙◌, ap₂, le_refl}
@@ -10,13 +10,15 @@ use borrow.Author.Tests.{not-false, not-true}
 use Rattle.std.proofs.Math.IntN.{pos}
 use Rattle.std.proofs.Math.ListN.{length, length-replicate, replicate}
 use Rattle.book.specs.Plain.{plain_of}
-use Rattle.read_tokens.specs.Entering.{Kept}
+use Rattle.book.specs.declared.Book.{Book as TheBook}
 use Rattle.write_bytes.specs.Room.{Room, written_in}
 use Rattle.refusal.specs.declared.Refusal.{Refusal}
 use Rattle.refusal.specs.declared.Refusal.TheVariants.{DoesNotFit}
 use Rattle.model.specs.Book.{Book, empty}
 use Rattle.model.specs.Lists.{every, non_empty}
-use Rattle.names.specs.Stored.{table_of, tables_of}
+use Rattle.names.specs.Kept.{Kept}
+use Rattle.names.specs.Stored.{Rows, table_of, tables, tables_of}
+use Rattle.names.specs.declared.Names.{Names}
 use Rattle.book_rules.specs.TestLaws.{empty_book_passes}
 use Rattle.sets.specs.TestLaws.{and-false, and-true, bool?, fails, if-false, if-true, ≤?_in, ≤?_out}
 use Rattle.sets.specs.Tests.{◌≤?◌}
@@ -154,20 +156,20 @@ module _ (t : Text) (old : List ℕ) where
 
 -- ---- an empty state
 
-kept_empty : (n : ℕ) {bytes : List ℕ} → length bytes ≡ n * 33 → table_of n bytes ≡ [] → Kept n bytes
-kept_empty n l e = record { long = l; held = ap (every non_empty) e ∙ unfold every in refl }
+kept_empty : (n : ℕ) {rows : Rows} → table_of n rows ≡ [] → Kept n rows
+kept_empty n e = record { held = ap (every non_empty) e ∙ unfold every in refl }
 
-module _ (s n c v f i : List ℕ) (b : plain_of s n ≡ empty) (t : tables_of c v f i ≡ no_names) where
-  pub empty_ready : length c ≡ 1056 → length v ≡ 2112 → length f ≡ 2112 → length i ≡ 8448 → Ready s n c v f i
+module _ (b : TheBook) (n : Names) (e : plain_of b.sets b.numbers ≡ empty) (t : tables n ≡ no_names) where
+  pub empty_ready : Ready b.sets b.numbers n.comps.rows n.vers.rows n.facs.rows n.impls.rows
   unfolding tables_of
-  empty_ready lc lv lf li = record {
-    passes = empty_book_passes _ _ b;
-    comps = kept_empty 32 lc (ap (λ (x : Tables). x.comps) t);
-    vers = kept_empty 64 lv (ap (λ (x : Tables). x.vers) t);
-    facs = kept_empty 64 lf (ap (λ (x : Tables). x.facs) t);
-    impls = kept_empty 256 li (ap (λ (x : Tables). x.impls) t);
+  empty_ready = record {
+    passes = empty_book_passes _ _ e;
+    comps = kept_empty 32 (ap (λ (x : Tables). x.comps) t);
+    vers = kept_empty 64 (ap (λ (x : Tables). x.vers) t);
+    facs = kept_empty 64 (ap (λ (x : Tables). x.facs) t);
+    impls = kept_empty 256 (ap (λ (x : Tables). x.impls) t);
   }
 
-  pub empty_fresh : state_of s n c v f i ≡ fresh
+  pub empty_fresh : state_of b.sets b.numbers n.comps.rows n.vers.rows n.facs.rows n.impls.rows ≡ fresh
   unfolding state_of
-  empty_fresh = ap₂ (λ (x : Book) (y : Tables). record { book = x; tables = y }) b t
+  empty_fresh = ap₂ (λ (x : Book) (y : Tables). record { book = x; tables = y }) e t

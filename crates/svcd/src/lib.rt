@@ -8,6 +8,7 @@ ghost use Rattle.svcd.specs.Reached.{Leaves, SessionCall, fits, len};
 ghost use Rattle.text.specs.LentSlice.{host_result, host_slice};
 
 use book::Book;
+use names::Names;
 use refusal::Refusal;
 use session_state::State;
 
@@ -17,7 +18,7 @@ fn empty() -> State
 {
     State {
         book: Book::fresh(),
-        names: names::no_names(),
+        names: Names::empty(),
     }
 }
 
@@ -30,7 +31,7 @@ fn list(state: &mut State, text: &[u8], out: &mut [u8]) -> Option<usize>
     let n = out.len();
     let Some(left) = session_run::run(text, state, out) else {
         *state = empty();
-        seqs::clear(out);
+        out.fill(0);
         return None;
     };
     Some(n - left)
@@ -55,7 +56,7 @@ pub fn session(text: &[u8], out: &mut [u8]) -> SessionEnd
 // "a text or slice beyond 2,147,483,647 bytes"
 const MOST_BYTES: usize = 2147483647;
 
-// "gets the listing's length, or minus 22"
+// "gets the listing's length, or minus 22": a number of the C interface.
 const MINUS_22: i32 = -22;
 
 // The session for a host in C: the listing's length, or minus 22.
@@ -64,11 +65,12 @@ pub fn svcd_session(text: &[u8], out: &mut [u8]) -> i32
     ensures out_after { out.new ≡ host_slice out.old text.now }
 {
     if MOST_BYTES < text.len() || MOST_BYTES < out.len() {
-        seqs::clear(out);
+        out.fill(0);
         return MINUS_22;
     }
     let mut state = empty();
     match list(&mut state, text, out) {
+        // nothing is lost: the listing is no longer than the slice
         Some(len) => len as i32,
         None => MINUS_22,
     }

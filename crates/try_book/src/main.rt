@@ -1,7 +1,7 @@
 // Builds the teaching book and a deep book, and prints what the test for 25 and the queries say of them and of Books that are no books.
 #![tactic(auto)]
 
-use book::Book;
+use book::{Book, Kind};
 use std::io;
 
 // Components of the teaching book.
@@ -50,6 +50,7 @@ fn teaching() -> Book {
     spec(&mut book, VALVE, COOL, 1, TEMP);
     spec(&mut book, LOOP, HOLD, 2, TEMP | COOL);
     spec(&mut book, TANK, HOLD, 3, 0);
+    // Flat, as the writer of a system asks the rows.
     let mut rows = [0; 2048];
     rows[3 * 32 + VALVE] = 1;
     rows[3 * 32 + LOOP] = 2;
@@ -84,13 +85,14 @@ fn judged(rt: &HostRuntime, text: &str, b: Book) -> io::Result<()> {
 // Books that are no books: tank's member probe is not there; a kind that no component has; an unspecified component made a system.
 fn damaged(rt: &HostRuntime) -> io::Result<()> {
     let mut robbed = teaching();
-    robbed.numbers[PROBE] = 0;
+    robbed.set_kind(PROBE, None);
     judged(rt, "robbed of probe", robbed)?;
     let mut strange = teaching();
+    // No method of the Book writes a number that is no kind's.
     strange.numbers[4] = 200;
     judged(rt, "a kind that is none", strange)?;
     let mut made = teaching();
-    made.numbers[5] = 3;
+    made.set_kind(5, Some(Kind::System));
     judged(rt, "a system with no version", made)
 }
 

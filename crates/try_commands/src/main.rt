@@ -98,6 +98,7 @@ impl Call {
         Some(call)
     }
 
+    // How many semicolons stand in a line: a count, and no answer.
     fn semicolons(self) -> usize {
         match self {
             Call::AddSpec => 4,
@@ -163,7 +164,7 @@ fn list(rt: &HostRuntime, args: &[u8], k: usize) -> io::Result<Vec<usize>> {
     Ok(items)
 }
 
-// List k as sets. (`u64` has no `From` of a `usize`.)
+// List k as sets. `as`: `u64` has no `From` of a `usize`.
 fn sets(rt: &HostRuntime, args: &[u8], k: usize) -> io::Result<Vec<u64>> {
     let numbers = list(rt, args, k)?;
     let sets = numbers.iter().map(|&n| n as u64).collect(rt.alloc())?;
@@ -291,7 +292,7 @@ impl Books {
 
 // ---- lines
 
-// A line with a colon.
+// A line with a colon. Each command has arguments of its own, so that a match calls the function of each.
 fn carry_out(rt: &HostRuntime, books: &mut Books, words: &[u8], args: &[u8]) -> io::Result<()> {
     let end = words.iter().position(|&c| c == b',').unwrap_or(words.len());
     let Some(command) = Command::named(&words[..end]) else {
@@ -343,6 +344,7 @@ fn do_lines(rt: &HostRuntime, input: &[u8]) -> io::Result<()> {
     Ok(())
 }
 
+// The input is read as a whole into an array of a fixed length. Each program that does so reads for itself: what it does with it is its own.
 fn main(rt: HostRuntime) -> io::Result<()> {
     let mut input = [0u8; 65536];
     let n = input::fill(&mut rt.stdin(), &mut input)?;

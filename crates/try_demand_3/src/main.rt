@@ -31,7 +31,7 @@ const HOLD: u64 = 4;
 // The members of a composition of tank.
 const MEMBERS: [usize; 3] = [LOOP, PROBE, VALVE];
 
-// The teaching book: the answer of each call.
+// The teaching book: the answer of each call. (LEFT_OUT is a number of the calls' interface.)
 fn build(book: &mut Book) -> [Result<(), Refusal>; 5]
     ensures { Run Arrays Call Step (book.old.sets, book.old.numbers) building (map code result) (book.new.sets, book.new.numbers) }
 {
@@ -43,7 +43,7 @@ fn build(book: &mut Book) -> [Result<(), Refusal>; 5]
     [probe, valve, loops, tank, made]
 }
 
-// K4, K5 and K6, which are refused; then each of the others.
+// K4, K5 and K6, which are refused; then each of the others. (LEFT_OUT is a number of the calls' interface.)
 fn try_each(book: &mut Book) -> [Result<(), Refusal>; 11]
     ensures { Run Arrays Call Step (book.old.sets, book.old.numbers) trying (map code result) (book.new.sets, book.new.numbers) }
 {

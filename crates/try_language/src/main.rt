@@ -3,20 +3,40 @@
 // their names from command to command. `stdout` was written from document 01.
 #![tactic(auto)]
 
-ghost use Rattle.std.specs.Prelude.{◌≡◌, length};
-ghost use Rattle.model.specs.Book.{components, facilities, implementations, versions};
-ghost use Rattle.read_tokens.specs.Entering.{Kept};
-
-use command_lists::{Compositions, Numbers, Sets};
+use command_lists::{Composition, Gathered};
+use names::Filled;
 use read_command::{
-    Command, Component, Form, Known, Named, OfBook, OfComponent, OfVersion, Query, Version,
+    Command, Component, Form, Named, OfBook, OfComponent, OfVersion, Pair, Query, Version,
 };
-use read_tokens::{ModRequest, ModvarRequest, Reader, SpecRequest, SysRequest, SysvarRequest};
+use read_tokens::{
+    ModRequest, ModvarRequest, PairTables, Reader, SpecRequest, SysRequest, SysvarRequest,
+};
 use std::io;
 use std::io::Write;
 
 // What parts two texts: a form feed, which is no white space.
 const PARTING: u8 = 12;
+
+// The tables that the names of a text are entered into.
+#[derive(Clone, Copy)]
+struct Tables {
+    pairs: PairTables,
+    facs: Filled<64>,
+    impls: Filled<256>,
+}
+
+impl Tables {
+    fn empty() -> Tables {
+        Tables {
+            pairs: PairTables {
+                comps: Filled::empty(),
+                vers: Filled::empty(),
+            },
+            facs: Filled::empty(),
+            impls: Filled::empty(),
+        }
+    }
+}
 
 // What the line of a command begins with: the number of the text, and that of the command's keyword.
 #[derive(Clone, Copy)]
@@ -25,7 +45,7 @@ struct Head {
     keyword: u8,
 }
 
-// ---- the keyword that begins a command, by its number
+// ---- the keyword that begins a command, by its number in document 01's list: `stdout` was written with these
 
 fn keyword_of(command: Command) -> u8 {
     match command {
@@ -42,6 +62,7 @@ fn keyword_of(command: Command) -> u8 {
     }
 }
 
+// The keyword of a query by its number, as above: `stdout` was written with these.
 fn query_keyword(query: Query) -> u8 {
     match query {
         Query::ByName(Named::One(OfComponent::Supplies)) => 0,
@@ -58,15 +79,43 @@ fn query_keyword(query: Query) -> u8 {
 
 // ---- what was read, printed
 
-// A command that was read up to `end`.
-fn print_command(rt: &HostRuntime, head: Head, end: usize) -> io::Result<()> {
-    print!(rt; "{} command {} to {end}", head.number, head.keyword)
+// The line of a command that was read up to `end`; whether it is of the language.
+fn print_read<R: Drop, F>(
+    rt: &HostRuntime,
+    head: Head,
+    end: usize,
+    read: Option<R>,
+    print: F,
+) -> io::Result<bool>
+where
+    F: Fn(&HostRuntime, R) -> io::Result<()>,
+    requires { F.IsAlwaysCallable print }
+{
+    let Some(r) = read else {
+        return Ok(false);
+    };
+    print!(rt; "{} command {} to {end}", head.number, head.keyword)?;
+    print(rt, r)?;
+    println!(rt)?;
+    Ok(true)
 }
 
-// "Adding commands: is there a place for each new name? no: 24." The numbers of such a command mean nothing.
-fn print_no_place(rt: &HostRuntime, head: Head, end: usize) -> io::Result<()> {
-    print_command(rt, head, end)?;
-    println!(rt; ": no place, 24")
+// The line of an adding command. "Is there a place for each new name? no: 24": there is no request then.
+fn print_adding<R: Drop, F>(
+    rt: &HostRuntime,
+    head: Head,
+    end: usize,
+    read: Option<Option<R>>,
+    print: F,
+) -> io::Result<bool>
+where
+    F: Fn(&HostRuntime, R) -> io::Result<()>,
+    requires { F.IsAlwaysCallable print }
+{
+    print_read(rt, head, end, read, |rt, request| match request {
+        Some(r) => print(rt, r),
+        None => print!(rt; ": no place, 24"),
+    })
 }
 
 fn print_set(rt: &HostRuntime, set: u64) -> io::Result<()> {
@@ -86,319 +135,163 @@ fn print_twice(rt: &HostRuntime, twice: bool) -> io::Result<()> {
     Ok(())
 }
 
-// Versions with the facilities that each requires.
-fn print_requirements(rt: &HostRuntime, versions: &Sets) -> io::Result<()> {
-    for (v, &required) in versions.at.iter().enumerate() {
-        if sets::member(versions.listed, v) {
-            print!(rt; "; v{v} requires")?;
-            print_set(rt, required)?;
+// Each number that stands in a list, behind `before`, and what stands beside it.
+fn print_list<T: Copy, const N: usize, F>(
+    rt: &HostRuntime,
+    before: &str,
+    list: &Gathered<T, N>,
+    print: F,
+) -> io::Result<()>
+where
+    F: Fn(&HostRuntime, T) -> io::Result<()>,
+    requires { F.IsAlwaysCallable print }
+{
+    for (k, &beside) in list.at.iter().enumerate() {
+        if sets::member(list.listed, k) {
+            print!(rt; "{before}{k}")?;
+            print(rt, beside)?;
         }
     }
     Ok(())
 }
 
-fn print_spec(rt: &HostRuntime, head: Head, end: usize, r: &SpecRequest) -> io::Result<()> {
-    if !r.room {
-        return print_no_place(rt, head, end);
-    }
-    print_command(rt, head, end)?;
+fn print_spec(rt: &HostRuntime, r: SpecRequest) -> io::Result<()> {
     print!(rt; ": c{} provides", r.component)?;
     print_set(rt, r.provided)?;
-    print_requirements(rt, &r.versions)?;
+    print_list(rt, "; v", &r.versions, |rt, required| {
+        print!(rt; " requires")?;
+        print_set(rt, required)
+    })?;
     print_twice(rt, r.versions.twice)?;
-    println!(rt; "; std v{}", r.standard)
+    print!(rt; "; std v{}", r.standard)
 }
 
-// Versions with their implementations.
-fn print_implementations(rt: &HostRuntime, versions: &Numbers) -> io::Result<()> {
-    for (v, implementation) in versions.at.iter().enumerate() {
-        if sets::member(versions.listed, v) {
-            print!(rt; "; v{v} impl {implementation}")?;
-        }
-    }
-    Ok(())
-}
-
-fn print_mod(rt: &HostRuntime, head: Head, end: usize, r: &ModRequest) -> io::Result<()> {
-    if !r.room {
-        return print_no_place(rt, head, end);
-    }
-    print_command(rt, head, end)?;
+fn print_mod(rt: &HostRuntime, r: ModRequest) -> io::Result<()> {
     print!(rt; ": c{}", r.component)?;
-    print_implementations(rt, &r.versions)?;
-    print_twice(rt, r.versions.twice)?;
-    println!(rt)
+    print_list(rt, "; v", &r.versions, |rt, implementation| {
+        print!(rt; " impl {implementation}")
+    })?;
+    print_twice(rt, r.versions.twice)
 }
 
 // Members, each with its version, or without where this is left out.
-fn print_members(rt: &HostRuntime, members: u64, versions: &[u8]) -> io::Result<()>
-    requires { length versions.now ≡ 32 }
-{
-    for (m, &version) in versions.iter().enumerate() {
-        if sets::member(members, m) {
-            print!(rt; " c{m}")?;
-            if version < 64 {
-                print!(rt; ".v{version}")?;
-            }
-        }
-    }
-    Ok(())
+fn print_members(rt: &HostRuntime, members: &Composition) -> io::Result<()> {
+    print_list(rt, " c", members, |rt, version| match version {
+        Some(v) => print!(rt; ".v{v}"),
+        None => Ok(()),
+    })
 }
 
-fn print_compositions(rt: &HostRuntime, versions: &Compositions) -> io::Result<()> {
-    for (v, &members) in versions.members.iter().enumerate() {
-        if sets::member(versions.listed, v) {
-            print!(rt; "; v{v} =")?;
-            print_members(rt, members, &versions.rows[v * 32..v * 32 + 32])?;
-        }
-    }
-    Ok(())
-}
-
-fn print_sys(rt: &HostRuntime, head: Head, end: usize, r: &SysRequest) -> io::Result<()> {
-    if !r.room {
-        return print_no_place(rt, head, end);
-    }
-    print_command(rt, head, end)?;
+fn print_sys(rt: &HostRuntime, r: SysRequest) -> io::Result<()> {
     print!(rt; ": c{} use", r.component)?;
-    print_set(rt, r.usable.set)?;
+    print_set(rt, r.usable.listed)?;
     print_twice(rt, r.usable.twice)?;
-    print_compositions(rt, &r.versions)?;
-    print_twice(rt, r.versions.twice)?;
-    println!(rt)
+    print_list(rt, "; v", &r.versions, |rt, members| {
+        print!(rt; " =")?;
+        print_members(rt, &members)
+    })?;
+    print_twice(rt, r.versions.twice)
 }
 
-fn print_modvar(rt: &HostRuntime, head: Head, end: usize, r: &ModvarRequest) -> io::Result<()> {
-    if !r.room {
-        return print_no_place(rt, head, end);
-    }
-    print_command(rt, head, end)?;
+fn print_modvar(rt: &HostRuntime, r: ModvarRequest) -> io::Result<()> {
     print!(rt; ": c{}.v{} requires", r.component, r.version)?;
     print_set(rt, r.required)?;
-    println!(rt; " impl {}", r.implementation)
+    print!(rt; " impl {}", r.implementation)
 }
 
-fn print_sysvar(rt: &HostRuntime, head: Head, end: usize, r: &SysvarRequest) -> io::Result<()> {
-    if !r.room {
-        return print_no_place(rt, head, end);
-    }
-    print_command(rt, head, end)?;
+fn print_sysvar(rt: &HostRuntime, r: SysvarRequest) -> io::Result<()> {
     print!(rt; ": c{}.v{} =", r.component, r.version)?;
-    print_members(rt, r.composition.members, &r.composition.versions)?;
-    print_twice(rt, r.composition.twice)?;
-    println!(rt)
+    print_members(rt, &r.composition)?;
+    print_twice(rt, r.composition.twice)
 }
 
-fn print_choice(rt: &HostRuntime, head: Head, end: usize, r: Known) -> io::Result<()> {
-    print_command(rt, head, end)?;
-    if !r.known {
-        return println!(rt; ": a name without a number");
+fn print_choice(rt: &HostRuntime, wanted: Option<u64>) -> io::Result<()> {
+    match wanted {
+        Some(set) => {
+            print!(rt; ":")?;
+            print_set(rt, set)
+        }
+        None => print!(rt; ": a name without a number"),
     }
-    print!(rt; ":")?;
-    print_set(rt, r.set)?;
-    println!(rt)
 }
 
-// ---- a command, from behind its first word: whether it is of the language
-
-fn spec(
-    rt: &HostRuntime,
-    head: Head,
-    comps: &mut [u8],
-    vers: &mut [u8],
-    facs: &mut [u8],
-    reader: &mut Reader<'_>,
-) -> io::Result<bool>
-    requires kept { Kept components comps.old }
-    requires kept_2 { Kept versions vers.old }
-    requires kept_3 { Kept facilities facs.old }
-    ensures kept_4 { Kept components comps.new }
-    ensures kept_5 { Kept versions vers.new }
-    ensures kept_6 { Kept facilities facs.new }
-{
-    let Some(r) = read_spec::read_spec(comps, vers, facs, reader) else {
-        return Ok(false);
-    };
-    print_spec(rt, head, reader.at, &r)?;
-    Ok(true)
-}
-
-fn module(
-    rt: &HostRuntime,
-    head: Head,
-    comps: &mut [u8],
-    vers: &mut [u8],
-    impls: &mut [u8],
-    reader: &mut Reader<'_>,
-) -> io::Result<bool>
-    requires kept { Kept components comps.old }
-    requires kept_2 { Kept versions vers.old }
-    requires kept_3 { Kept implementations impls.old }
-    ensures kept_4 { Kept components comps.new }
-    ensures kept_5 { Kept versions vers.new }
-    ensures kept_6 { Kept implementations impls.new }
-{
-    let Some(r) = read_mod::read_mod(comps, vers, impls, reader) else {
-        return Ok(false);
-    };
-    print_mod(rt, head, reader.at, &r)?;
-    Ok(true)
-}
-
-fn system(
-    rt: &HostRuntime,
-    head: Head,
-    comps: &mut [u8],
-    vers: &mut [u8],
-    reader: &mut Reader<'_>,
-) -> io::Result<bool>
-    requires kept { Kept components comps.old }
-    requires kept_2 { Kept versions vers.old }
-    ensures kept_3 { Kept components comps.new }
-    ensures kept_4 { Kept versions vers.new }
-{
-    let Some(r) = read_sys::read_sys(comps, vers, reader) else {
-        return Ok(false);
-    };
-    print_sys(rt, head, reader.at, &r)?;
-    Ok(true)
-}
-
-fn modvar(
-    rt: &HostRuntime,
-    head: Head,
-    comps: &mut [u8],
-    vers: &mut [u8],
-    facs: &mut [u8],
-    impls: &mut [u8],
-    reader: &mut Reader<'_>,
-) -> io::Result<bool>
-    requires kept { Kept components comps.old }
-    requires kept_2 { Kept versions vers.old }
-    requires kept_3 { Kept facilities facs.old }
-    requires kept_4 { Kept implementations impls.old }
-    ensures kept_5 { Kept components comps.new }
-    ensures kept_6 { Kept versions vers.new }
-    ensures kept_7 { Kept facilities facs.new }
-    ensures kept_8 { Kept implementations impls.new }
-{
-    let Some(r) = read_mod::read_modvar(comps, vers, facs, impls, reader) else {
-        return Ok(false);
-    };
-    print_modvar(rt, head, reader.at, &r)?;
-    Ok(true)
-}
-
-fn sysvar(
-    rt: &HostRuntime,
-    head: Head,
-    comps: &mut [u8],
-    vers: &mut [u8],
-    reader: &mut Reader<'_>,
-) -> io::Result<bool>
-    requires kept { Kept components comps.old }
-    requires kept_2 { Kept versions vers.old }
-    ensures kept_3 { Kept components comps.new }
-    ensures kept_4 { Kept versions vers.new }
-{
-    let Some(r) = read_sys::read_sysvar(comps, vers, reader) else {
-        return Ok(false);
-    };
-    print_sysvar(rt, head, reader.at, &r)?;
-    Ok(true)
-}
-
-fn choice(rt: &HostRuntime, head: Head, facs: &[u8], reader: &mut Reader<'_>) -> io::Result<bool>
-    requires { Kept facilities facs.now }
-{
-    let Some(r) = read_command::read_choice(facs, reader) else {
-        return Ok(false);
-    };
-    print_choice(rt, head, reader.at, r)?;
-    Ok(true)
-}
-
-// A command of one component: its name, as the part of the text.
-fn one(rt: &HostRuntime, head: Head, reader: &mut Reader<'_>) -> io::Result<bool> {
-    let Some(name) = read_command::read_one(reader) else {
-        return Ok(false);
-    };
-    print_command(rt, head, reader.at)?;
+// A name, as the part of the text.
+fn print_name(rt: &HostRuntime, name: &[u8]) -> io::Result<()> {
     print!(rt; ": ")?;
-    rt.stdout().write_all(name)?;
-    println!(rt)?;
-    Ok(true)
+    rt.stdout().write_all(name)
 }
 
-// A command of a pair: the two names.
-fn pair(rt: &HostRuntime, head: Head, reader: &mut Reader<'_>) -> io::Result<bool> {
-    let Some(names) = read_command::read_pair(reader) else {
-        return Ok(false);
-    };
-    print_command(rt, head, reader.at)?;
-    print!(rt; ": ")?;
-    rt.stdout().write_all(names.component)?;
+fn print_pair(rt: &HostRuntime, names: Pair<'_>) -> io::Result<()> {
+    print_name(rt, names.component)?;
     print!(rt; ".")?;
-    rt.stdout().write_all(names.version)?;
-    println!(rt)?;
-    Ok(true)
+    rt.stdout().write_all(names.version)
 }
 
-// A command that is its keyword.
-fn alone(rt: &HostRuntime, head: Head, at: usize) -> io::Result<bool> {
-    print_command(rt, head, at)?;
-    println!(rt)?;
-    Ok(true)
+// ---- a command of each form, from behind its first word: whether it is of the language
+
+// A command of one component.
+fn one(rt: &HostRuntime, head: Head, reader: &mut Reader<'_>) -> io::Result<bool> {
+    let read = read_command::read_one(reader);
+    print_read(rt, head, reader.at, read, |rt, name| print_name(rt, name))
 }
 
-// ---- a command of each form
+// A command of a pair.
+fn pair(rt: &HostRuntime, head: Head, reader: &mut Reader<'_>) -> io::Result<bool> {
+    let read = read_command::read_pair(reader);
+    print_read(rt, head, reader.at, read, |rt, names| print_pair(rt, names))
+}
 
-// One of the ten commands.
+// One of the ten commands. Each of the adding commands has tables and a request of its own, so the match names them.
 fn change(
     rt: &HostRuntime,
     head: Head,
     command: Command,
-    comps: &mut [u8],
-    vers: &mut [u8],
-    facs: &mut [u8],
-    impls: &mut [u8],
+    tables: &mut Tables,
     reader: &mut Reader<'_>,
-) -> io::Result<bool>
-    requires kept { Kept components comps.old }
-    requires kept_2 { Kept versions vers.old }
-    requires kept_3 { Kept facilities facs.old }
-    requires kept_4 { Kept implementations impls.old }
-    ensures kept_5 { Kept components comps.new }
-    ensures kept_6 { Kept versions vers.new }
-    ensures kept_7 { Kept facilities facs.new }
-    ensures kept_8 { Kept implementations impls.new }
-{
+) -> io::Result<bool> {
     match command {
-        Command::AddSpec => spec(rt, head, comps, vers, facs, reader),
-        Command::AddMod => module(rt, head, comps, vers, impls, reader),
-        Command::AddSys => system(rt, head, comps, vers, reader),
-        Command::AddModvar => modvar(rt, head, comps, vers, facs, impls, reader),
-        Command::AddSysvar => sysvar(rt, head, comps, vers, reader),
+        Command::AddSpec => {
+            let read = read_spec::read_spec(&mut tables.pairs, &mut tables.facs, reader);
+            print_adding(rt, head, reader.at, read, print_spec)
+        }
+        Command::AddMod => {
+            let read = read_mod::read_mod(&mut tables.pairs, &mut tables.impls, reader);
+            print_adding(rt, head, reader.at, read, print_mod)
+        }
+        Command::AddSys => {
+            let read = read_sys::read_sys(&mut tables.pairs, reader);
+            print_adding(rt, head, reader.at, read, print_sys)
+        }
+        Command::AddModvar => {
+            let Tables { pairs, facs, impls } = tables;
+            let read = read_mod::read_modvar(pairs, facs, impls, reader);
+            print_adding(rt, head, reader.at, read, print_modvar)
+        }
+        Command::AddSysvar => {
+            let read = read_sys::read_sysvar(&mut tables.pairs, reader);
+            print_adding(rt, head, reader.at, read, print_sysvar)
+        }
         Command::Remove(_) => one(rt, head, reader),
         Command::RemoveVersion(_) => pair(rt, head, reader),
     }
 }
 
-// A query.
+// A query. A kind is read in a way of its own, so the match names them.
 fn ask(
     rt: &HostRuntime,
     head: Head,
     query: Query,
-    facs: &[u8],
+    tables: &Tables,
     reader: &mut Reader<'_>,
-) -> io::Result<bool>
-    requires { Kept facilities facs.now }
-{
+) -> io::Result<bool> {
     match query {
         Query::ByName(Named::One(_)) => one(rt, head, reader),
         Query::ByName(Named::Pair(_)) => pair(rt, head, reader),
-        Query::Choice => choice(rt, head, facs, reader),
-        Query::Whole(_) => alone(rt, head, reader.at),
+        Query::Choice => {
+            let read = read_command::read_choice(&tables.facs.table, reader);
+            print_read(rt, head, reader.at, read, print_choice)
+        }
+        Query::Whole(_) => print_read(rt, head, reader.at, Some(()), |_, ()| Ok(())),
     }
 }
 
@@ -416,36 +309,18 @@ fn tell(rt: &HostRuntime, number: usize, at: usize, is_read: bool) -> io::Result
 fn print_next(
     rt: &HostRuntime,
     number: usize,
-    comps: &mut [u8],
-    vers: &mut [u8],
-    facs: &mut [u8],
-    impls: &mut [u8],
+    tables: &mut Tables,
     reader: &mut Reader<'_>,
-) -> io::Result<bool>
-    requires kept { Kept components comps.old }
-    requires kept_2 { Kept versions vers.old }
-    requires kept_3 { Kept facilities facs.old }
-    requires kept_4 { Kept implementations impls.old }
-    ensures kept_5 { Kept components comps.new }
-    ensures kept_6 { Kept versions vers.new }
-    ensures kept_7 { Kept facilities facs.new }
-    ensures kept_8 { Kept implementations impls.new }
-{
+) -> io::Result<bool> {
     let at = reader.at;
     let is_read = match read_command::read_command(reader) {
         Some(Form::Changes(command)) => {
-            let head = Head {
-                number,
-                keyword: keyword_of(command),
-            };
-            change(rt, head, command, comps, vers, facs, impls, reader)?
+            let keyword = keyword_of(command);
+            change(rt, Head { number, keyword }, command, tables, reader)?
         }
         Some(Form::Asks(query)) => {
-            let head = Head {
-                number,
-                keyword: query_keyword(query),
-            };
-            ask(rt, head, query, facs, reader)?
+            let keyword = query_keyword(query);
+            ask(rt, Head { number, keyword }, query, tables, reader)?
         }
         Some(Form::Over) => {
             println!(rt; "{number} over at {}", reader.at)?;
@@ -458,37 +333,15 @@ fn print_next(
 }
 
 // The commands of a text. Each takes a byte of it at least.
-fn print_commands(
-    rt: &HostRuntime,
-    number: usize,
-    comps: &mut [u8],
-    vers: &mut [u8],
-    facs: &mut [u8],
-    impls: &mut [u8],
-    text: &[u8],
-) -> io::Result<()>
-    requires kept { Kept components comps.old }
-    requires kept_2 { Kept versions vers.old }
-    requires kept_3 { Kept facilities facs.old }
-    requires kept_4 { Kept implementations impls.old }
-{
+fn print_text(rt: &HostRuntime, number: usize, text: &[u8]) -> io::Result<()> {
+    let mut tables = Tables::empty();
     let mut reader = Reader::new(text);
     for _ in 0..=text.len() {
-        if !print_next(rt, number, comps, vers, facs, impls, &mut reader)? {
+        if !print_next(rt, number, &mut tables, &mut reader)? {
             break;
         }
     }
     Ok(())
-}
-
-fn print_text(rt: &HostRuntime, number: usize, text: &[u8]) -> io::Result<()> {
-    let mut comps = [0u8; 1056];
-    let mut vers = [0u8; 2112];
-    let mut facs = [0u8; 2112];
-    let mut impls = [0u8; 8448];
-    print_commands(
-        rt, number, &mut comps, &mut vers, &mut facs, &mut impls, text,
-    )
 }
 
 fn print_texts(rt: &HostRuntime, input: &[u8]) -> io::Result<()> {
@@ -499,6 +352,7 @@ fn print_texts(rt: &HostRuntime, input: &[u8]) -> io::Result<()> {
 }
 
 fn main(rt: HostRuntime) -> io::Result<()> {
+    // Each program reads its input for itself. An array and no `Vec`, as the program needs no heap. What stands behind its 65536 bytes is not read.
     let mut input = [0u8; 65536];
     let n = input::fill(&mut rt.stdin(), &mut input)?;
     print_texts(&rt, &input[..n])

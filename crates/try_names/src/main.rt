@@ -1,42 +1,23 @@
 // Fills a table of names to its last place and asks for one more; then looks names up.
 #![tactic(auto)]
 
-ghost use Rattle.std.specs.Prelude.{◌≡◌, true, ◌*◌, length};
-ghost use Rattle.model.specs.Lists.{every, non_empty};
-ghost use Rattle.text.specs.Bytes.{short};
-ghost use Rattle.names.specs.Stored.{table_of};
-
+use names::Filled;
 use std::io;
 
-fn show_entered(rt: &HostRuntime, names: &mut [u8], places: usize, word: &[u8]) -> io::Result<()>
-    requires names_len { length names.old ≡ places * 33 }
-    requires names_value { every non_empty (table_of places names.old) ≡ true }
-    requires word_value { short word.now ≡ true }
-    ensures { every non_empty (table_of places names.new) ≡ true }
-{
-    match names::enter(names, places, word) {
+fn show(rt: &HostRuntime, number: Option<usize>, otherwise: &str) -> io::Result<()> {
+    match number {
         Some(k) => println!(rt; "{k}"),
-        None => println!(rt; "no room"),
-    }
-}
-
-fn show_found(rt: &HostRuntime, names: &[u8], places: usize, word: &[u8]) -> io::Result<()>
-    requires names_len { length names.now ≡ places * 33 }
-    requires word_value { short word.now ≡ true }
-{
-    match names::lookup(names, places, word) {
-        Some(k) => println!(rt; "{k}"),
-        None => println!(rt; "no number"),
+        None => println!(rt; "{otherwise}"),
     }
 }
 
 fn main(rt: HostRuntime) -> io::Result<()> {
-    let mut names = [0u8; 99];
-    show_entered(&rt, &mut names, 3, b"probe")?;
-    show_entered(&rt, &mut names, 3, b"valve")?;
-    show_entered(&rt, &mut names, 3, b"probe")?;
-    show_entered(&rt, &mut names, 3, b"loop")?;
-    show_entered(&rt, &mut names, 3, b"tank")?;
-    show_found(&rt, &names, 3, b"loop")?;
-    show_found(&rt, &names, 3, b"tank")
+    let mut names = Filled::<3>::empty();
+    show(&rt, names.enter(b"probe"), "no room")?;
+    show(&rt, names.enter(b"valve"), "no room")?;
+    show(&rt, names.enter(b"probe"), "no room")?;
+    show(&rt, names.enter(b"loop"), "no room")?;
+    show(&rt, names.enter(b"tank"), "no room")?;
+    show(&rt, names.table.lookup(b"loop"), "no number")?;
+    show(&rt, names.table.lookup(b"tank"), "no number")
 }

@@ -60,6 +60,7 @@ fn show_parts(
         Err(refusal) => (refusal.number(), 0, 0),
     };
     print!(rt; "{text}: {answer}, rows {rows};")?;
+    // A row of the call is one number, component × 64 + version.
     for row in out.iter() {
         print!(rt; " {}.{}", row / 64, row % 64)?;
     }
@@ -79,7 +80,8 @@ fn show_depth(rt: &HostRuntime, depth: usize) -> io::Result<()> {
 
 // ---- books, by calls
 
-// A line where a call refuses.
+// A line where a call refuses. Each program stands by itself, so that what is printed is seen in it.
+// The answer is one parameter, a Result, here and below.
 fn taken(rt: &HostRuntime, answer: Result<(), Refusal>) -> io::Result<()> {
     if let Err(refusal) = answer {
         println!(rt; "refused: {}", refusal.number())?;
@@ -101,7 +103,7 @@ fn system(book: &mut Book, c: usize, v: usize, m: usize, x: usize) -> Result<(),
     commands::add_sys(book, c, &[m], &[v], &[1], &[m], &[x])
 }
 
-// Component c defined as a system of one version, with all that is usable in its standard version.
+// Component c defined as a system of one version, with all that is usable in its standard version: the slices of the call mark it by LEFT_OUT.
 fn system_of<const N: usize>(
     book: &mut Book,
     c: usize,

@@ -2,11 +2,11 @@
 // written from document 01.
 #![tactic(auto)]
 
-ghost use Rattle.std.specs.Prelude.{◌≡◌, ◌+◌, ◌*◌, ◌<◌, length};
+ghost use Rattle.std.specs.Prelude.{◌<◌, ◌≤◌, length};
 
 use book::Book;
 use command_lists::LEFT_OUT;
-use names::Names;
+use names::{Filled, Names, Table};
 use refusal::Refusal;
 use std::io;
 use std::io::Write;
@@ -16,7 +16,8 @@ const BEFORE: u8 = b'.';
 
 // ---- lines
 
-// What stands at the start of the slice, and how many of the bytes behind it are as they were.
+// What stands at the start of the slice, and how many of the bytes behind it are as they were. The length is what the call answered: it may
+// be too long for the slice.
 fn show_slice(rt: &HostRuntime, out: &[u8], len: usize) -> io::Result<()> {
     let (Some(text), Some(behind)) = (out.get(..len), out.get(len..)) else {
         return println!(rt; "longer than the slice");
@@ -46,20 +47,18 @@ fn show(rt: &HostRuntime, label: &str, b: Book, t: Names) -> io::Result<()> {
 
 // ---- tables, by names
 
-// A table of that many places with these words, which spaces part.
-fn table<const LEN: usize>(rt: &HostRuntime, places: usize, words: &str) -> io::Result<[u8; LEN]>
-    requires { LEN ≡ places * 33 }
-{
-    let mut names = [0; LEN];
+// A table with these words, which spaces part.
+fn table<const P: usize>(rt: &HostRuntime, words: &str) -> io::Result<Table<P>> {
+    let mut names = Filled::empty();
     for word in words.split_whitespace() {
         let word = word.as_bytes();
         if words::is_valid_implementation(word) {
-            names::enter(&mut names, places, word);
+            names.enter(word);
         } else {
             println!(rt; "no word")?;
         }
     }
-    Ok(names)
+    Ok(names.table)
 }
 
 fn tables(
@@ -70,26 +69,27 @@ fn tables(
     impl_words: &str,
 ) -> io::Result<Names> {
     Ok(Names {
-        comps: table(rt, 32, comp_words)?,
-        vers: table(rt, 64, ver_words)?,
-        facs: table(rt, 64, fac_words)?,
-        impls: table(rt, 256, impl_words)?,
+        comps: table(rt, comp_words)?,
+        vers: table(rt, ver_words)?,
+        facs: table(rt, fac_words)?,
+        impls: table(rt, impl_words)?,
     })
 }
 
-// A length and bytes written over those of a place, valid or not.
-fn overwrite(names: &mut [u8], place: usize, len: u8, bytes: &[u8])
-    requires { place * 33 + length bytes.now < length names.old }
+// A length and bytes written over those of a place, valid or not: the length need not be that of the bytes. No name is as long as 33.
+fn overwrite<const P: usize>(table: &mut Table<P>, place: usize, len: u8, bytes: &[u8])
+    requires { (place < P) × (length bytes.now ≤ 32) }
 {
-    let start = place * 33;
-    names[start] = len;
-    names[start + 1..][..bytes.len()].copy_from_slice(bytes);
+    let row = &mut table.rows[place];
+    row[0] = len;
+    row[1..1 + bytes.len()].copy_from_slice(bytes);
 }
 
 // ---- books, by calls
 
-// A line where a call refuses.
+// A line where a call refuses. try_parts has such a function too: what a program prints stands in that program alone.
 fn taken(rt: &HostRuntime, answer: Result<(), Refusal>) -> io::Result<()> {
+    // The answer is one parameter, a Result.
     if let Err(refusal) = answer {
         println!(rt; "refused: {}", refusal.number())?;
     }
@@ -128,6 +128,7 @@ fn teaching(rt: &HostRuntime) -> io::Result<Book> {
     spec(rt, &mut b, 1, 2, 1, 1)?;
     spec(rt, &mut b, 2, 4, 2, 3)?;
     spec(rt, &mut b, 3, 4, 3, 0)?;
+    // LEFT_OUT is a number, as the interface to C lends versions.
     let used = [2, 0, 1];
     taken(
         rt,
@@ -175,6 +176,7 @@ fn figure_modules(rt: &HostRuntime) -> io::Result<Book> {
     Ok(b)
 }
 
+// LEFT_OUT is a number, as the interface to C lends versions.
 fn figure(rt: &HostRuntime) -> io::Result<Book> {
     let mut b = figure_modules(rt)?;
     taken(
@@ -213,7 +215,8 @@ fn six_specs(rt: &HostRuntime) -> io::Result<Book> {
     Ok(b)
 }
 
-// a uses z, m uses a, b and z use base; c may use z too, but its composition does not hold it.
+// a uses z, m uses a, b and z use base; c may use z too, but its composition does not hold it. LEFT_OUT is a number, as the interface to C
+// lends versions.
 fn held_back(rt: &HostRuntime) -> io::Result<Book> {
     let mut b = six_specs(rt)?;
     system(rt, &mut b, 0, 1)?;
@@ -282,7 +285,7 @@ fn module(rt: &HostRuntime) -> io::Result<Book> {
 
 // ---- the question for 25
 
-// The name of version 3 is made that of version 2.
+// The name of version 3 is made that of version 2; a place whose length is 33 is free.
 fn show_twice(rt: &HostRuntime, k: Book, t: Names) -> io::Result<()> {
     let mut twice = t;
     overwrite(&mut twice.vers, 3, 1, b"p");
@@ -296,6 +299,7 @@ fn show_twice(rt: &HostRuntime, k: Book, t: Names) -> io::Result<()> {
     show(rt, "two free places with one byte", k, spare)
 }
 
+// A place whose length is 0 or 33 is free.
 fn show_missing(rt: &HostRuntime, k: Book, t: Names) -> io::Result<()> {
     let mut free = t;
     overwrite(&mut free.facs, 0, 0, b"");
@@ -354,7 +358,7 @@ fn show_no_book(rt: &HostRuntime, k: Book, t: Names) -> io::Result<()> {
 // ---- all
 
 fn show_empty(rt: &HostRuntime, t: Names) -> io::Result<()> {
-    show(rt, "empty book", Book::fresh(), names::no_names())?;
+    show(rt, "empty book", Book::fresh(), Names::empty())?;
     show_in(rt, "empty book, empty slice", Book::fresh(), t, &mut [])
 }
 

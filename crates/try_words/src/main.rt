@@ -39,7 +39,8 @@ fn print_tokens(rt: &HostRuntime, text: &[u8]) -> io::Result<()> {
 
 // ---- what a word is
 
-// The number of a keyword. What is empty or has more than 32 bytes is none.
+// The number of a keyword. What is empty or has more than 32 bytes is none, and may not be asked about.
+// read_command asks in the same form for what a word begins.
 fn keyword_of(word: &[u8]) -> Option<usize> {
     if word.is_empty() || 32 < word.len() {
         return None;
@@ -80,7 +81,7 @@ fn print_all(rt: &HostRuntime, input: &[u8]) -> io::Result<()> {
 }
 
 fn main(rt: HostRuntime) -> io::Result<()> {
-    // An array and no `Vec`, as the program needs no heap. What stands behind its 4096 bytes is not read.
+    // Each program reads its input for itself. An array and no `Vec`, as the program needs no heap. What stands behind its 4096 bytes is not read.
     let mut input = [0u8; 4096];
     let n = input::fill(&mut rt.stdin(), &mut input)?;
     print_all(&rt, &input[..n])

@@ -1,5 +1,5 @@
 -- A word is a name, or an implementation: a law for each way out of the code.
-use Rattle.std.specs.Prelude.{Bool, not, List, [], ◌∷◌, ◌≡◌, ◌≢◌, refl, ◌<◌, ◌≤◌, suc, ℕ, eqb, leb, drop, get_or, length}
+use Rattle.std.specs.Prelude.{Bool, not, [], ◌∷◌, ◌≡◌, ◌≢◌, refl, ◌<◌, ◌≤◌, suc, ℕ, eqb, leb, drop, get_or, length}
 use Rattle.std.proofs.Math.Bool.{false, true}
 use Rattle.std.proofs.Common.{inl, inr, ◌∙◌, arith, drop_of_length-le, length-drop}
 use Rattle.std.proofs.Math.Option.{Option, none, some}
@@ -11,28 +11,20 @@ use Rattle.sets.specs.TestLaws.{=?-in, =?-not, =?-out, and-false, and-true, and_
 use Rattle.sets.specs.TestLaws.{not_in, not_out, ≤?_in, ≤?_out}
 use Rattle.sets.specs.Sets.{bit}
 use Rattle.sets.specs.Tests.{◌&◌, ◌=?◌, ◌≤?◌, if?◌then◌else◌}
-use Rattle.text.specs.Bytes.{Text, alnum, among, bytes, impl_byte, keywords, name_byte, name_word, same, short, valid_implementation}
+use Rattle.text.specs.Bytes.{Text, alnum, among, bytes, impl_byte, keywords, name_byte, name_word, short, valid_implementation}
 use Rattle.text.specs.Bytes.{valid_name}
-use Rattle.text.specs.Tables.{Table, name_at, place}
+use Rattle.text.specs.Tables.{place}
 use Rattle.text.specs.Tokens.{past}
 use Rattle.text_laws.specs.Places.{place-among, place_there}
 use Rattle.text_laws.specs.TextLaws.{every-among}
 use Rattle.std.specs.Prelude.{Option as Found}
 use Rattle.std.specs.Prelude.{None, Some}
-use Rattle.names.specs.Stored.{name_in, table_of}
 use Rattle.sets.specs.Answered.{answered}
-use Rattle.names.specs.UpToLastLaws.{last_at}
 use Rattle.std.specs.Option.{is_some as found}
 use Rattle.words.specs.TokenLaws.{short_in}
 use Rattle.words.specs.Reading.{RunsTo, in_run, keyword_hashes, hash_of}
 
 -- ---- keywords
-
--- what the bytes hold at a place is the name there of the table that they are
-pub held_at : (n : ℕ) (names : List ℕ) (w : Text) (k : ℕ) (r : Bool) → k < n → r ≡ same w (name_in names k)
-    → (t : Table) → table_of n names ≡ t → r ≡ same w (name_at t k)
-unfolding table_of
-held_at n names w k r h e t q = e ∙ ap (same w) (sym (last_at n (name_in names) k h) ∙ ap (λ (x : Table). name_at x k) q)
 
 -- each keyword has one of the hashes
 keywords_hashed : every (λ w. bit keyword_hashes (hash_of w)) keywords ≡ true

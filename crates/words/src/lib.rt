@@ -11,6 +11,8 @@ ghost use Rattle.words.specs.Keywords.{keyword_count};
 ghost use Rattle.words.specs.Reading.{passes, stays_open, in_run, Skips, RunsTo, quoted_from, word_at, Reads, keyword_hashes, hash_of};
 ghost use Rattle.sets.specs.Answered.{answered};
 
+use names::Table;
+
 // A word from its start to its end; what stands within an implementation's quotes; a mark and the position after it; or the end of the
 // text.
 #[derive(Clone, Copy)]
@@ -65,11 +67,13 @@ fn stays_open(inside: bool, c: u8) -> bool
 }
 
 // Where the next token or the end of the text stands; none where a comment is left open.
+// A bound on a position is plainer than a type for it.
 pub fn next_start(text: &[u8], at: usize) -> Option<usize>
     requires { at ≤ length text.now }
     ensures { Skips text.now at result }
 {
     let mut inside = false;
+    // By its number: what is given is a position in the text, and an iterator would count from `at`.
     for i in at..text.len() {
         let c = text[i];
         if !does_pass(inside, c) {
@@ -83,6 +87,7 @@ pub fn next_start(text: &[u8], at: usize) -> Option<usize>
 // ---- tokens
 
 // The end of the run of name bytes, or of an implementation's bytes, from `at` on.
+// A bound on a position is plainer than a type for it.
 pub fn run_end(text: &[u8], at: usize, quoted: bool) -> usize
     requires { at ≤ length text.now }
     ensures { RunsTo (in_run quoted) text.now at result }
@@ -125,6 +130,7 @@ fn token_at(text: &[u8], at: usize) -> Option<Token>
 }
 
 // The next token, or none where what stands there is no token.
+// A bound on a position is plainer than a type for it.
 pub fn next_token(text: &[u8], at: usize) -> Option<Token>
     requires { at ≤ length text.now }
     ensures { Reads text.now at (next_token (drop at text.now)) result }
@@ -139,6 +145,7 @@ pub fn next_token(text: &[u8], at: usize) -> Option<Token>
 // ---- words
 
 // The end of the word that begins at `at`, or `at` where none does.
+// A bound on a position is plainer than a type for it.
 fn word_end(text: &[u8], at: usize) -> usize
     requires { at ≤ length text.now }
     ensures { result ≡ at + length (word_at (drop at text.now)) }
@@ -160,6 +167,7 @@ pub fn word<'a>(text: &'a [u8], at: usize) -> &'a [u8]
 }
 
 // A part of the text that was read before, from where it starts up to its end.
+// A bound on a position is plainer than a type for it.
 pub fn part<'a>(text: &'a [u8], start: usize, end: usize) -> &'a [u8]
     requires { (start ≤ end) × (end ≤ length text.now) }
     ensures { result.now ≡ take (end - start) (drop start text.now) }
@@ -172,41 +180,45 @@ pub fn part<'a>(text: &'a [u8], start: usize, end: usize) -> &'a [u8]
 // How many keywords there are (specs/Keywords.antt).
 const KEYWORD_COUNT: usize = 28;
 
-// The keywords in their order, as a table of names: 33 bytes for each, its length first.
-const KEYWORDS: [u8; 33 * KEYWORD_COUNT] = *b"\
-    \x08supplies\0\0\0\0\0\0\0\0\0\0\0\0\0\0\0\0\0\0\0\0\0\0\0\0\
-    \x05needs\0\0\0\0\0\0\0\0\0\0\0\0\0\0\0\0\0\0\0\0\0\0\0\0\0\0\0\
-    \x06choice\0\0\0\0\0\0\0\0\0\0\0\0\0\0\0\0\0\0\0\0\0\0\0\0\0\0\
-    \x03end\0\0\0\0\0\0\0\0\0\0\0\0\0\0\0\0\0\0\0\0\0\0\0\0\0\0\0\0\0\
-    \x08standard\0\0\0\0\0\0\0\0\0\0\0\0\0\0\0\0\0\0\0\0\0\0\0\0\
-    \x09undefined\0\0\0\0\0\0\0\0\0\0\0\0\0\0\0\0\0\0\0\0\0\0\0\
-    \x06unused\0\0\0\0\0\0\0\0\0\0\0\0\0\0\0\0\0\0\0\0\0\0\0\0\0\0\
-    \x09whereused\0\0\0\0\0\0\0\0\0\0\0\0\0\0\0\0\0\0\0\0\0\0\0\
-    \x02in\0\0\0\0\0\0\0\0\0\0\0\0\0\0\0\0\0\0\0\0\0\0\0\0\0\0\0\0\0\0\
-    \x03out\0\0\0\0\0\0\0\0\0\0\0\0\0\0\0\0\0\0\0\0\0\0\0\0\0\0\0\0\0\
-    \x04quit\0\0\0\0\0\0\0\0\0\0\0\0\0\0\0\0\0\0\0\0\0\0\0\0\0\0\0\0\
-    \x04spec\0\0\0\0\0\0\0\0\0\0\0\0\0\0\0\0\0\0\0\0\0\0\0\0\0\0\0\0\
-    \x08provides\0\0\0\0\0\0\0\0\0\0\0\0\0\0\0\0\0\0\0\0\0\0\0\0\
-    \x03std\0\0\0\0\0\0\0\0\0\0\0\0\0\0\0\0\0\0\0\0\0\0\0\0\0\0\0\0\0\
-    \x08requires\0\0\0\0\0\0\0\0\0\0\0\0\0\0\0\0\0\0\0\0\0\0\0\0\
-    \x06all-of\0\0\0\0\0\0\0\0\0\0\0\0\0\0\0\0\0\0\0\0\0\0\0\0\0\0\
-    \x03mod\0\0\0\0\0\0\0\0\0\0\0\0\0\0\0\0\0\0\0\0\0\0\0\0\0\0\0\0\0\
-    \x04impl\0\0\0\0\0\0\0\0\0\0\0\0\0\0\0\0\0\0\0\0\0\0\0\0\0\0\0\0\
-    \x03sys\0\0\0\0\0\0\0\0\0\0\0\0\0\0\0\0\0\0\0\0\0\0\0\0\0\0\0\0\0\
-    \x03use\0\0\0\0\0\0\0\0\0\0\0\0\0\0\0\0\0\0\0\0\0\0\0\0\0\0\0\0\0\
-    \x07delspec\0\0\0\0\0\0\0\0\0\0\0\0\0\0\0\0\0\0\0\0\0\0\0\0\0\
-    \x06delmod\0\0\0\0\0\0\0\0\0\0\0\0\0\0\0\0\0\0\0\0\0\0\0\0\0\0\
-    \x06delsys\0\0\0\0\0\0\0\0\0\0\0\0\0\0\0\0\0\0\0\0\0\0\0\0\0\0\
-    \x06modvar\0\0\0\0\0\0\0\0\0\0\0\0\0\0\0\0\0\0\0\0\0\0\0\0\0\0\
-    \x06sysvar\0\0\0\0\0\0\0\0\0\0\0\0\0\0\0\0\0\0\0\0\0\0\0\0\0\0\
-    \x09delmodvar\0\0\0\0\0\0\0\0\0\0\0\0\0\0\0\0\0\0\0\0\0\0\0\
-    \x09delsysvar\0\0\0\0\0\0\0\0\0\0\0\0\0\0\0\0\0\0\0\0\0\0\0\
-    \x05parts\0\0\0\0\0\0\0\0\0\0\0\0\0\0\0\0\0\0\0\0\0\0\0\0\0\0\0";
+// The keywords in their order, as a table of names.
+const KEYWORDS: Table<KEYWORD_COUNT> = Table {
+    rows: [
+        *b"\x08supplies\0\0\0\0\0\0\0\0\0\0\0\0\0\0\0\0\0\0\0\0\0\0\0\0",
+        *b"\x05needs\0\0\0\0\0\0\0\0\0\0\0\0\0\0\0\0\0\0\0\0\0\0\0\0\0\0\0",
+        *b"\x06choice\0\0\0\0\0\0\0\0\0\0\0\0\0\0\0\0\0\0\0\0\0\0\0\0\0\0",
+        *b"\x03end\0\0\0\0\0\0\0\0\0\0\0\0\0\0\0\0\0\0\0\0\0\0\0\0\0\0\0\0\0",
+        *b"\x08standard\0\0\0\0\0\0\0\0\0\0\0\0\0\0\0\0\0\0\0\0\0\0\0\0",
+        *b"\x09undefined\0\0\0\0\0\0\0\0\0\0\0\0\0\0\0\0\0\0\0\0\0\0\0",
+        *b"\x06unused\0\0\0\0\0\0\0\0\0\0\0\0\0\0\0\0\0\0\0\0\0\0\0\0\0\0",
+        *b"\x09whereused\0\0\0\0\0\0\0\0\0\0\0\0\0\0\0\0\0\0\0\0\0\0\0",
+        *b"\x02in\0\0\0\0\0\0\0\0\0\0\0\0\0\0\0\0\0\0\0\0\0\0\0\0\0\0\0\0\0\0",
+        *b"\x03out\0\0\0\0\0\0\0\0\0\0\0\0\0\0\0\0\0\0\0\0\0\0\0\0\0\0\0\0\0",
+        *b"\x04quit\0\0\0\0\0\0\0\0\0\0\0\0\0\0\0\0\0\0\0\0\0\0\0\0\0\0\0\0",
+        *b"\x04spec\0\0\0\0\0\0\0\0\0\0\0\0\0\0\0\0\0\0\0\0\0\0\0\0\0\0\0\0",
+        *b"\x08provides\0\0\0\0\0\0\0\0\0\0\0\0\0\0\0\0\0\0\0\0\0\0\0\0",
+        *b"\x03std\0\0\0\0\0\0\0\0\0\0\0\0\0\0\0\0\0\0\0\0\0\0\0\0\0\0\0\0\0",
+        *b"\x08requires\0\0\0\0\0\0\0\0\0\0\0\0\0\0\0\0\0\0\0\0\0\0\0\0",
+        *b"\x06all-of\0\0\0\0\0\0\0\0\0\0\0\0\0\0\0\0\0\0\0\0\0\0\0\0\0\0",
+        *b"\x03mod\0\0\0\0\0\0\0\0\0\0\0\0\0\0\0\0\0\0\0\0\0\0\0\0\0\0\0\0\0",
+        *b"\x04impl\0\0\0\0\0\0\0\0\0\0\0\0\0\0\0\0\0\0\0\0\0\0\0\0\0\0\0\0",
+        *b"\x03sys\0\0\0\0\0\0\0\0\0\0\0\0\0\0\0\0\0\0\0\0\0\0\0\0\0\0\0\0\0",
+        *b"\x03use\0\0\0\0\0\0\0\0\0\0\0\0\0\0\0\0\0\0\0\0\0\0\0\0\0\0\0\0\0",
+        *b"\x07delspec\0\0\0\0\0\0\0\0\0\0\0\0\0\0\0\0\0\0\0\0\0\0\0\0\0",
+        *b"\x06delmod\0\0\0\0\0\0\0\0\0\0\0\0\0\0\0\0\0\0\0\0\0\0\0\0\0\0",
+        *b"\x06delsys\0\0\0\0\0\0\0\0\0\0\0\0\0\0\0\0\0\0\0\0\0\0\0\0\0\0",
+        *b"\x06modvar\0\0\0\0\0\0\0\0\0\0\0\0\0\0\0\0\0\0\0\0\0\0\0\0\0\0",
+        *b"\x06sysvar\0\0\0\0\0\0\0\0\0\0\0\0\0\0\0\0\0\0\0\0\0\0\0\0\0\0",
+        *b"\x09delmodvar\0\0\0\0\0\0\0\0\0\0\0\0\0\0\0\0\0\0\0\0\0\0\0",
+        *b"\x09delsysvar\0\0\0\0\0\0\0\0\0\0\0\0\0\0\0\0\0\0\0\0\0\0\0",
+        *b"\x05parts\0\0\0\0\0\0\0\0\0\0\0\0\0\0\0\0\0\0\0\0\0\0\0\0\0\0\0",
+    ],
+};
 
 // The hashes of the keywords, as a set of numbers below 64.
 const KEYWORD_HASHES: u64 = 8360950420800018440;
 
 // Whether a word has the hash of a keyword. Most names have not, and need no lookup.
+// A word is a part of a text: a type for a short one would be made and taken apart at each call.
 fn may_be_keyword(word: &[u8]) -> bool
     requires { short word.now ≡ true }
     ensures { result ≡ bit keyword_hashes (hash_of word.now) }
@@ -224,16 +236,17 @@ pub fn keyword_of(word: &[u8]) -> Option<usize>
     if !may_be_keyword(word) {
         return None;
     }
-    names::lookup(&KEYWORDS, KEYWORD_COUNT, word)
+    KEYWORDS.lookup(word)
 }
 
 // Whether a word is the keyword with the number k.
+// A word is a part of a text: a type for a short one would be made and taken apart at each call.
 pub fn is_keyword(word: &[u8], k: usize) -> bool
     requires k_lt_keyword_count { k < keyword_count }
     requires word_value { short word.now ≡ true }
     ensures { result ≡ same word.now (name_at keywords k) }
 {
-    names::holds(&KEYWORDS, KEYWORD_COUNT, k, word)
+    word == KEYWORDS.name(k)
 }
 
 // Whether a word that was read is a name.

@@ -46,7 +46,8 @@ module _ (Y : Systems) (s : ℕ) (done : Set) {systems left u : Set} (sys : syst
           by (inr d) a b = clash (and_in _ _ (<?_in _ _ h) b) (not_out _ (imp_out _ _ t (and_in _ _ a (not_in _ d))))
 
       back : (usable Y s c ⇒ is_system Y c ⇒ done c) ≡ true → ((usable Y s c & ~ done c) ⇒ ~ (c <? components & is_system Y c)) ≡ true
-      back t = imp_in _ _ (λ a. not_in _ (fails _ (λ b. clash {A = ⊥} (imp_out _ _ (imp_out _ _ t (and_l _ _ a)) (and_r _ _ b)) (not_out _ (and_r _ _ a)))))
+      back t = imp_in _ _ (λ a. not_in _ (fails _ (λ b.
+          clash {A = ⊥} (imp_out _ _ (imp_out _ _ t (and_l _ _ a)) (and_r _ _ b)) (not_out _ (and_r _ _ a)))))
 
   high : (c : ℕ) → 32 ≤ c → (left c ⇒ ~ systems c) ≡ true
   unfolding below

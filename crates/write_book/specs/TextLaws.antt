@@ -4,17 +4,17 @@ use Rattle.std.proofs.Common.{◌∙◌}
 use Rattle.std.specs.Prelude.{◌≡◌, refl, ℕ}
 use Rattle.std.proofs.Math.Path.{ap, ap₂, sym}
 use Rattle.model.specs.Book.{Book, components, is_module, specified}
-use Rattle.names.specs.Stored.{table_of, tables_of}
+use Rattle.names.specs.Stored.{Rows, table_of, tables_of}
 use Rattle.sets.specs.Sets.{Set, below}
 use Rattle.text.specs.Bytes.{Text}
 use Rattle.text.specs.Language.{Said}
-use Rattle.text.specs.Tables.{joined}
+use Rattle.text.specs.Tables.{Table, joined}
 use Rattle.text.specs.Written.{as_commands, by_name, line, mod_of, parted, spec_of, sys_of, systems_in_order, written}
 use Rattle.write_bytes.specs.ByName.{listed}
 use Rattle.write_line.specs.ComponentLaws.{below_same}
-use Rattle.write_line.specs.Lines.{has_line, line_of, system_lines}
-use Rattle.write_version.specs.declared.Kind.{Kind}
-use Rattle.write_version.specs.declared.Kind.TheVariants.{Module, Spec}
+use Rattle.write_line.specs.Lines.{system_lines}
+use Rattle.write_version.specs.ListedLaws.{listed_is}
+use Rattle.write_version.specs.Pieces.{led_by}
 
 parted_joined : (l : List Text) → parted [] l ≡ joined l
 unfolding parted joined
@@ -31,29 +31,26 @@ unfolding joined
 joined_append [] ys = refl
 joined_append (x ∷ xs) ys = ap (λ (w : Text). x ++ w) (joined_append xs ys) ∙ sym (append_assoc x (joined xs) (joined ys))
 
-module _ (b : Book) (cs vs fs is : List ℕ) where
-  -- the lines of a kind
-  lines_of : (k : Kind) (s : Set) → s ≡ below components (has_line k b)
-      → listed [] (line_of k b (tables_of cs vs fs is)) (table_of components cs) components s
-      ≡ joined (map (line_of k b (tables_of cs vs fs is)) (by_name (table_of components cs) components (has_line k b)))
-  unfolding listed
-  lines_of k s e =
-      parted_joined _
-      ∙ ap (λ (l : List ℕ). joined (map (line_of k b (tables_of cs vs fs is)) l))
-      (ap (by_name (table_of components cs) components) e ∙ below_same (table_of components cs) components (has_line k b))
+-- the lines of a set of the components
+lines_of : (f : ℕ → Text) (t : Table) (a : Set) {s : Set} → s ≡ below components a
+    → led_by [] [] (map f (by_name t components s)) ≡ joined (map f (by_name t components a))
+lines_of f t a {s = s} e =
+    listed_is [] f t components s ∙ unfold listed in parted_joined _
+    ∙ ap (λ (l : List ℕ). joined (map f l)) (ap (by_name t components) e ∙ below_same t components a)
 
-  commands_text : (xs ys zs : List Said)
-      → joined (map line (xs ++ (ys ++ zs))) ≡ joined (map line xs) ++ (joined (map line ys) ++ joined (map line zs))
-  commands_text xs ys zs =
-      ap joined (map-append line xs (ys ++ zs) ∙ ap (λ (l : List Text). map line xs ++ l) (map-append line ys zs))
-      ∙ joined_append (map line xs) (map line ys ++ map line zs)
-      ∙ ap (λ (w : Text). joined (map line xs) ++ w) (joined_append (map line ys) (map line zs))
+commands_text : (xs ys zs : List Said)
+    → joined (map line (xs ++ (ys ++ zs))) ≡ joined (map line xs) ++ (joined (map line ys) ++ joined (map line zs))
+commands_text xs ys zs =
+    ap joined (map-append line xs (ys ++ zs) ∙ ap (λ (l : List Text). map line xs ++ l) (map-append line ys zs))
+    ∙ joined_append (map line xs) (map line ys ++ map line zs)
+    ∙ ap (λ (w : Text). joined (map line xs) ++ w) (joined_append (map line ys) (map line zs))
 
-  text_parts : joined (map (line_of Spec b (tables_of cs vs fs is)) (by_name (table_of components cs) components (specified b.specs)))
-      ++ (joined (map (line_of Module b (tables_of cs vs fs is)) (by_name (table_of components cs) components (is_module b.modules)))
+module _ (b : Book) (cs vs fs is : Rows) where
+  text_parts : joined (map (λ c. line (spec_of b (tables_of cs vs fs is) c)) (by_name (table_of components cs) components (specified b.specs)))
+      ++ (joined (map (λ c. line (mod_of b (tables_of cs vs fs is) c)) (by_name (table_of components cs) components (is_module b.modules)))
       ++ system_lines b (tables_of cs vs fs is))
       ≡ written b (tables_of cs vs fs is)
-  unfolding written as_commands system_lines line_of tables_of
+  unfolding written as_commands system_lines tables_of
   text_parts =
       let t = tables_of cs vs fs is in
       let ss = by_name (table_of components cs) components (specified b.specs) in
@@ -63,10 +60,10 @@ module _ (b : Book) (cs vs fs is : List ℕ) where
       ∙ ap₂ (λ (v w : Text). v ++ w) (ap joined (map-map line (spec_of b t) ss))
       (ap₂ (λ (v w : Text). v ++ w) (ap joined (map-map line (mod_of b t) ms)) (ap joined (map-map line (sys_of b t) ys))))
 
-  pub text_is : {s m : Set} → s ≡ below components (has_line Spec b) → m ≡ below components (has_line Module b)
-      → listed [] (line_of Spec b (tables_of cs vs fs is)) (table_of components cs) components s
-      ++ (listed [] (line_of Module b (tables_of cs vs fs is)) (table_of components cs) components m ++ system_lines b (tables_of cs vs fs is))
+  pub text_is : {s m : Set} → s ≡ below components (specified b.specs) → m ≡ below components (is_module b.modules)
+      → led_by [] [] (map (λ c. line (spec_of b (tables_of cs vs fs is) c)) (by_name (table_of components cs) components s))
+      ++ (led_by [] [] (map (λ c. line (mod_of b (tables_of cs vs fs is) c)) (by_name (table_of components cs) components m))
+      ++ system_lines b (tables_of cs vs fs is))
       ≡ written b (tables_of cs vs fs is)
-  unfolding has_line
   text_is {s = s} {m = m} d e =
-      ap₂ (λ (x y : Text). x ++ (y ++ system_lines b (tables_of cs vs fs is))) (lines_of Spec s d) (lines_of Module m e) ∙ text_parts
+      ap₂ (λ (x y : Text). x ++ (y ++ system_lines b (tables_of cs vs fs is))) (lines_of _ _ _ d) (lines_of _ _ _ e) ∙ text_parts

@@ -2,7 +2,6 @@ pub mod Room
 pub mod ByName
 pub mod RoomLaws
 pub mod DecimalLaws
-pub mod NameLaws
 pub mod BeforeLaws
 pub mod ByNameLaws
 pub mod Written

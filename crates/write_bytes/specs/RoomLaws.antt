@@ -4,10 +4,9 @@ use Rattle.std.proofs.Common.{append_assoc, append-nil, ◌∙◌, subst, zero-l
 use Rattle.std.proofs.Math.Path.{ap, sym}
 use Rattle.std.proofs.lemmas.Bool.{not-false, not-true}
 use Rattle.std.proofs.Math.ListN.{drop, length, take}
-use Rattle.std.proofs.Math.Seq.{length-take-le}
+use Rattle.std.proofs.Math.Seq.{drop-drop, length-take-le}
 use Rattle.seqs.specs.Filled.{filled}
 use Rattle.seqs.specs.FilledLaws.{filled_at, filled-length}
-use Rattle.seqs.specs.RestLaws.{rest_copied}
 use Rattle.sets.specs.TestLaws.{and-false, and-true, and_in, and_l, and_r, clash, fails, if-false, if-true, iff→≡, ≤?_in, ≤?_out}
 use Rattle.sets.specs.Tests.{◌&◌, ◌≤?◌, if?◌then◌else◌}
 use Rattle.text.specs.Bytes.{Text}
@@ -46,14 +45,14 @@ module _ (w : Text) (old : List ℕ) where
         holds = λ t l. absurd (omega arith);
       }
 
-      pub put_written : (a : ℕ) (ys : List ℕ) → n ≤ length old → a ≡ length old - n
-          → ys ≡ take (length w) w ++ drop (length w) (take (length old - a) (drop a old))
-          → Puts w (room_of (Some n)) (room_of (Some m)) old (take a old ++ (ys ++ drop (length old - a) (drop a old)))
+      pub put_written : (a : ℕ) (ys : List ℕ) → n ≤ length old → a ≡ length old - n → ys ≡ w
+          → Puts w (room_of (Some n)) (room_of (Some m)) old (take a old ++ (ys ++ drop (a + length w - a) (drop a old)))
       unfolding written_in filled
       put_written a ys g d c =
           let l : length (take a old) ≡ a = length-take-le a old (omega arith) in
-          let q : take a old ++ (ys ++ drop (length old - a) (drop a old)) ≡ filled (take a old ++ w) old =
-          rest_copied old w ys a c ∙ rw (length-append, l, append_assoc) in
+          let z : a + length w - a ≡ length w = omega arith in
+          let q : take a old ++ (ys ++ drop (a + length w - a) (drop a old)) ≡ filled (take a old ++ w) old =
+          rw (c, z, drop-drop, length-append, l, append_assoc) refl in
           record {
             fits = fit;
             left = λ t. e;

@@ -1,18 +1,11 @@
 -- Laws of a writer: nothing written, one piece after another, a loop that has written a part, and rows.
-use Rattle.std.specs.Prelude.{List, None, Option, Some, [], ◌-◌, ◌<◌, ◌≤◌, drop, length, take, ◌∷◌, ◌++◌, ◌≡◌, refl, ℕ}
+use Rattle.std.specs.Prelude.{List, None, Option, Some, [], ◌+◌, ◌-◌, ◌<◌, ◌≤◌, drop, length, take, ◌∷◌, ◌++◌, ◌≡◌, refl, ℕ}
 use Rattle.std.proofs.Common.{append_assoc, ◌∙◌, arith, subst, sym}
-use Rattle.model.specs.Book.{components, versions}
-use Rattle.names.specs.Stored.{table_of}
-use Rattle.seqs.specs.Filled.{filled}
-use Rattle.seqs.specs.RestLaws.{copied_whole}
 use Rattle.text.specs.Bytes.{Text, bytes}
 use Rattle.text.specs.Session.{decimal, row}
-use Rattle.text.specs.Tables.{name_at}
 use Rattle.write_bytes.specs.RoomLaws.{Partly, partly_end, partly_more, partly_start, put_after_miss, put_measured, put_miss, put_written}
 use Rattle.write_bytes.specs.RoomLaws.{puts_none, puts_then}
 use Rattle.write_bytes.specs.Room.{Puts, Room, room_of}
-use Rattle.write_bytes.specs.Written.{pair_of}
-use Rattle.write_bytes.specs.WrittenLaws.{pair_row_as, row_as}
 use Rattle.write_bytes.specs.Writes.{Writes}
 use Rattle.write_bytes.specs.declared.writer.Writer.{Writer}
 
@@ -38,12 +31,11 @@ module _ (w : Text) (a : Writer) where
       pub writes_measured : length a.out.now < n → Writes w a (record { out = a.out; left = Some m })
       writes_measured g = record { puts = from_n (put_measured w a.out.now n m (omega (arith, f.0, f.1)) g); same_slice = refl }
 
-      pub word_written : {ys : List ℕ} → n ≤ length a.out.now
-          → ys ≡ filled w (take (length a.out.now - (length a.out.now - n)) (drop (length a.out.now - n) a.out.now))
+      pub word_written : {ys : List ℕ} → n ≤ length a.out.now → ys ≡ w
           → Puts w (room_of a.left) (room_of (Some m)) a.out.now
           (take (length a.out.now - n) a.out.now
-          ++ (ys ++ drop (length a.out.now - (length a.out.now - n)) (drop (length a.out.now - n) a.out.now)))
-      word_written g c = from_n (put_written w a.out.now n m (omega (arith, f.0, f.1)) _ _ g refl (copied_whole _ _ _ c))
+          ++ (ys ++ drop (length a.out.now - n + length w - (length a.out.now - n)) (drop (length a.out.now - n) a.out.now)))
+      word_written g c = from_n (put_written w a.out.now n m (omega (arith, f.0, f.1)) _ _ g refl c)
 
 -- ---- one piece after another
 
@@ -95,11 +87,3 @@ pub writes_pair_row : (i : ℕ) {v w : Text} {a b c d e f : Writer} → Writes (
     → Writes (44 ∷ []) c d → Writes w d e → Writes (bytes "\n") e f → Writes (row i (v ++ (bytes "," ++ w))) a f
 unfolding bytes
 writes_pair_row i f g h k l = writes_row i f (writes_then g (writes_then h k)) l
-
--- with the names of a table
-pub writes_row_as : (i : ℕ) {v w : Text} {a b : Writer} → v ≡ w → Writes (row i v) a b → Writes (row i w) a b
-writes_row_as i e f = record { puts = row_as i e f.puts; same_slice = f.same_slice }
-
-pub writes_pair_row_as : (i : ℕ) (comps vers : List ℕ) (c v : ℕ) {x y : Text} {a b : Writer} → x ≡ name_at (table_of components comps) c
-    → y ≡ name_at (table_of versions vers) v → Writes (row i (x ++ (bytes "," ++ y))) a b → Writes (row i (pair_of comps vers c v)) a b
-writes_pair_row_as i comps vers c v e f g = record { puts = pair_row_as i comps vers c v e f g.puts; same_slice = g.same_slice }

@@ -2,22 +2,17 @@
 use Rattle.std.proofs.Math.Bool.{false, true}
 use Rattle.std.proofs.Math.Option.{none, some}
 use Rattle.std.specs.Prelude.{List, ◌++◌, ◌≡◌, ◌-◌, ◌≤◌, ℕ, take}
-use Rattle.std.proofs.Common.{◌∙◌, ap₂, le_refl}
+use Rattle.std.proofs.Common.{◌∙◌, le_refl}
 use Rattle.std.proofs.Math.Path.{ap, refl, sym}
 use Rattle.std.proofs.Math.Nat.{sub_self}
 use native.Mathlib.Omega.{arith}
 use Rattle.std.proofs.Math.ListN.{length}
-use Rattle.model.specs.Book.{components, versions}
-use Rattle.names.specs.Stored.{table_of}
 use Rattle.seqs.specs.Filled.{filled}
 use Rattle.sets.specs.TestLaws.{and-true, if-false, if-true}
 use Rattle.sets.specs.Tests.{◌≤?◌}
-use Rattle.text.specs.Bytes.{Text, bytes}
-use Rattle.text.specs.Session.{row}
-use Rattle.text.specs.Tables.{name_at}
+use Rattle.text.specs.Bytes.{Text}
 use Rattle.write_bytes.specs.Room.{Puts, Room, written_in}
-use Rattle.write_bytes.specs.RoomLaws.{puts_as}
-use Rattle.write_bytes.specs.Written.{pair_of, starting_with, wrote}
+use Rattle.write_bytes.specs.Written.{starting_with, wrote}
 
 abbrev pub whole : List ℕ → Room
 whole old = record { fits = true; left = length old }
@@ -49,13 +44,3 @@ module _ (w : Text) (old : List ℕ) {m : Room} {a b : List ℕ} (f : Puts w (wh
 
 pub left_over : {w : Text} {p q : Room} {a b : List ℕ} → Puts w p q a b → q.fits ≡ true → q.left ≤ p.left
 left_over f h = let e = f.left h in omega arith
-
--- with the names of a table
-pub row_as : (i : ℕ) {v w : Text} {p q : Room} {a b : List ℕ} → v ≡ w → Puts (row i v) p q a b → Puts (row i w) p q a b
-row_as i e = puts_as (ap (row i) e)
-
-pub pair_row_as : (i : ℕ) (comps vers : List ℕ) (c v : ℕ) {x y : Text} {p q : Room} {a b : List ℕ}
-    → x ≡ name_at (table_of components comps) c → y ≡ name_at (table_of versions vers) v → Puts (row i (x ++ (bytes "," ++ y))) p q a b
-    → Puts (row i (pair_of comps vers c v)) p q a b
-unfolding pair_of
-pair_row_as i comps vers c v e f = row_as i (ap₂ (λ (s t : Text). s ++ (bytes "," ++ t)) e f)

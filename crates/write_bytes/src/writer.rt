@@ -49,7 +49,7 @@ impl<'a> Writer<'a> {
         self.left = Some(then);
         if left <= self.out.len() {
             let at = self.out.len() - left;
-            seqs::copy(word, &mut self.out[at..]);
+            self.out[at..at + word.len()].copy_from_slice(word);
         }
     }
 
@@ -59,15 +59,14 @@ impl<'a> Writer<'a> {
         self.put(&[byte]);
     }
 
-    // "Numbers are written in base ten."
+    // "Numbers are written in base ten." Digit by digit: `write!` asks for a `fmt::Write` whose errors mean nothing here, and `n % 10 as u8`
+    // says that a digit is a byte.
     pub fn put_number(&mut self, n: usize)
         ensures { Writes (decimal n) self.old self.new }
     {
-        if n < 10 {
-            self.put_byte(b'0' + n as u8);
-            return;
+        if 10 <= n {
+            self.put_number(n / 10);
         }
-        self.put_number(n / 10);
         self.put_byte(b'0' + (n % 10) as u8);
     }
 

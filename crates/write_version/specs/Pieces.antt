@@ -3,14 +3,11 @@ use Rattle.std.specs.Prelude.{List, [], ◌++◌, ◌∷◌, map, ℕ}
 use Rattle.std.proofs.Math.Option.{some}
 use Rattle.model.specs.Book.{Book, facilities, implementation, member, requires, standard}
 use Rattle.model.specs.Maps.{or_else}
-use Rattle.names.specs.Stored.{table_of}
 use Rattle.sets.specs.Sets.{Set}
 use Rattle.text.specs.Bytes.{Text, bytes}
-use Rattle.text.specs.Tables.{Tables, name_at}
+use Rattle.text.specs.Tables.{Table, Tables, name_at}
 use Rattle.text.specs.Written.{by_name, facility_names, member_piece, members_of, mod_piece, parted, requiring, spec_piece, sys_piece}
 use Rattle.write_bytes.specs.ByName.{listed}
-use Rattle.write_version.specs.declared.Kind.{Kind}
-use Rattle.write_version.specs.declared.Kind.TheVariants.{Module, Spec, System}
 
 -- pieces with the text p between each two, and s before the first
 unfoldable pub led_by : Text → Text → List Text → Text
@@ -18,17 +15,16 @@ led_by s p [] = []
 led_by s p (x ∷ xs) = s ++ parted p (x ∷ xs)
 
 -- the names of the numbers that pass the test, with the text s before the first
-unfoldable pub names_led : Text → List ℕ → ℕ → Set → Text
-names_led s names n test = led_by s (bytes ", ") (map (name_at (table_of n names)) (by_name (table_of n names) n test))
+unfoldable pub names_led : Text → Table → ℕ → Set → Text
+names_led s t n test = led_by s (bytes ", ") (map (name_at t) (by_name t n test))
 
 -- the names of the numbers that pass the test
-unfoldable pub names_of : List ℕ → ℕ → Set → Text
-names_of names n test = listed (bytes ", ") (name_at (table_of n names)) (table_of n names) n test
+unfoldable pub names_of : Table → ℕ → Set → Text
+names_of t n test = listed (bytes ", ") (name_at t) t n test
 
 -- what a version requires
-unfoldable pub required_text : List ℕ → Set → Text
-required_text facs test =
-    requiring (map (name_at (table_of facilities facs)) (by_name (table_of facilities facs) facilities test))
+unfoldable pub required_text : Table → Set → Text
+required_text facs test = requiring (map (name_at facs) (by_name facs facilities test))
 
 -- a version of the spec of c
 unfoldable pub spec_version : Book → Tables → ℕ → ℕ → Text
@@ -47,9 +43,3 @@ member_text b t s v c =
 -- a version of the system s
 unfoldable pub sys_version : Book → Tables → ℕ → ℕ → Text
 sys_version b t s v = sys_piece (name_at t.vers v, members_of b t s v)
-
--- a version of c in its line
-unfoldable pub version_of : Kind → Book → Tables → ℕ → ℕ → Text
-version_of Spec b t c v = spec_version b t c v
-version_of Module b t c v = mod_version b t c v
-version_of System b t c v = sys_version b t c v

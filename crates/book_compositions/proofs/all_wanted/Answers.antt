@@ -1,12 +1,7 @@
 use Rattle.std.proofs.Common.{rules}
-use Rattle.sets.specs.LoopLaws.{all_start, all_turn, all_stop}
+use Rattle.sets.specs.RangeLaws.{range_all}
+use Rattle.book_rules.specs.CompositionLaws.{wanted_skip, wanted_is}
 use Rattle.book_compositions.proofs.all_wanted.Goals as goal
 
-pub loop-m-init : goal.loop-m-init
-loop-m-init c = search (rules, all_start)
-
-pub returns-then-not-wanted_if : goal.returns-then-not-wanted_if
-returns-then-not-wanted_if c = search (rules, all_stop)
-
-pub loop-m-preserved : goal.loop-m-preserved
-loop-m-preserved c = search (rules, all_turn)
+pub returns : goal.returns
+returns c = range_all _ 32 c.all.ensures.ran (λ x b q e. search (rules, wanted_skip, wanted_is))

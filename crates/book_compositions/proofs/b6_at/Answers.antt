@@ -13,7 +13,10 @@ pub loop-m-init : goal.loop-m-init
 loop-m-init c = (search rules, union_start _, apart_start _ _ _ _)
 
 pub returns-then-not-disjoint : goal.returns-then-not-disjoint
-returns-then-not-disjoint c = apart_stop _ _ _ _ _ _ _ c.loop-m.invariant.1 c.provides-provided.ensures c.disjoint.ensures (spec_limits_lem _ _).provided< c.loop-m-test.true (is_member_lem _ _ _ _ _ c.members-members.ensures c.member.ensures c.if-member.true) (ap not c.if-not-disjoint.true)
+returns-then-not-disjoint c =
+    apart_stop _ _ _ _ _ _ _ c.loop-m.invariant.1 c.provides-provided.ensures c.disjoint.ensures (spec_limits_lem _ _).provided<
+    c.loop-m-test.true (is_member_lem _ _ _ _ _ c.members-members.ensures c.member.ensures c.if-member.true)
+    (ap not c.if-not-disjoint.true)
 
 pub loop-m-preserved : goal.loop-m-preserved
 loop-m-preserved c =
@@ -21,7 +24,7 @@ loop-m-preserved c =
     let member = c.member.ensures ∙ ap (λ (a : Set). a c.loop-m.m) c.members-members.ensures in (
       omega arith,
       elim c.if-member.branch [
-        | then-member+else-not-disjoint w ↦ ap bit w.seen-is ∙ provided_more _ _ _ _ _ _ seen member w.if-member.true
+        | then-member+else-not-disjoint w ↦ ap bit w.seen-is ∙ provided_more _ _ _ _ seen member _ _ w.if-member.true
             w.provides-provided.ensures w.union-seen.ensures
         | else-member w ↦ ap bit w.seen-is ∙ provided_same _ _ _ _ seen member w.if-member.false
       ],

@@ -2,4 +2,6 @@ use Rattle.book_rules.specs.CompositionLaws.{b9_is}
 use Rattle.book_compositions.proofs.b9_at.Goals as goal
 
 pub returns-clause-value : goal.returns-clause-value
-returns-clause-value c = b9_is _ _ _ _ _ _ _ _ c.requires.sound c.requires.s_bound.1 c.needs_of-needed.ensures.result_value c.provided.ensures c.minus-open.ensures c.offered.ensures c.disjoint.ensures
+returns-clause-value c =
+    b9_is _ _ _ _ _ _ _ _ c.args.needs.now.sound c.requires c.of-needed.ensures.value c.provided.ensures c.minus-open.ensures
+    c.offered.ensures c.disjoint.ensures

@@ -1,6 +1,7 @@
-use Rattle.std.proofs.Common.{arith}
-use Rattle.book_cycles.specs.Closure.{joined_turn}
+use Rattle.std.proofs.Common.{rules}
+use Rattle.book_cycles.specs.Closure.{rows_turn}
 use Rattle.book_cycles.proofs.pass.Goals as goal
 
-pub loop-c-preserved : goal.loop-c-preserved
-loop-c-preserved c = (omega arith, joined_turn _ _ _ _ _ _ c.requires.rows c.requires.k_bound c.loop-c-test.true c.loop-c.invariant.1 c.join.ensures)
+pub returns : goal.returns
+returns c = rows_turn _ _ _ _ c.requires.rows c.requires.k_bound c.each_component.ensures.size
+    (λ d l. (let each = c.each_component.ensures.each d l in search rules))

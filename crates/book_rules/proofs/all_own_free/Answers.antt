@@ -1,12 +1,7 @@
 use Rattle.std.proofs.Common.{rules}
-use Rattle.sets.specs.LoopLaws.{all_start, all_turn, all_stop}
+use Rattle.sets.specs.RangeLaws.{range_all}
+use Rattle.book_rules.specs.RuleLaws.{own_free_lem, own_absent}
 use Rattle.book_rules.proofs.all_own_free.Goals as goal
 
-pub loop-v-init : goal.loop-v-init
-loop-v-init c = search (rules, all_start)
-
-pub returns-then-not-own_free : goal.returns-then-not-own_free
-returns-then-not-own_free c = search (rules, all_stop)
-
-pub loop-v-preserved : goal.loop-v-preserved
-loop-v-preserved c = search (rules, all_turn)
+pub returns : goal.returns
+returns c = range_all _ 64 c.all.ensures.ran (λ x b q e. search (rules, own_free_lem, own_absent))

@@ -6,4 +6,4 @@ pub unwrap-i-requires : goal.unwrap-i-requires
 unwrap-i-requires c = search (rules, held_place)
 
 pub returns-clause-holds : goal.returns-clause-holds
-returns-clause-holds c = search (rules, modvar_out)
+returns-clause-holds c = rw (c.set_version.ensures.sets_kept, c.set_version.ensures.numbers) (search (rules, modvar_out))

@@ -2,5 +2,5 @@ use Rattle.std.proofs.Common.{rules}
 use Rattle.book.specs.DefineLaws.{spec_taken}
 use Rattle.book_take.proofs.take_spec.Goals as goal
 
-pub returns : goal.returns
-returns c = search (rules, spec_taken)
+pub returns-clause-holds : goal.returns-clause-holds
+returns-clause-holds c = rw (c.set_kind.ensures.sets_kept, c.set_kind.ensures.numbers) (search (rules, spec_taken))

@@ -6,4 +6,4 @@ pub unwrap-place-requires : goal.unwrap-place-requires
 unwrap-place-requires c = search (rules, held_place)
 
 pub returns-clause-holds : goal.returns-clause-holds
-returns-clause-holds c = search (rules, sysvar_out)
+returns-clause-holds c = rw (c.set_version.ensures.sets_kept, c.set_version.ensures.numbers) (search (rules, sysvar_out))

@@ -1,7 +1,9 @@
+use Rattle.std.proofs.Common.{rules}
+use Rattle.sets.specs.RangeLaws.{range_all}
 use Rattle.model.specs.Rules.{B5, each_composition}
-use Rattle.book_test.specs.Rules.{rule_at}
+use Rattle.book_rules.specs.CompositionLaws.{if_composed, of_system}
 use Rattle.book_test.proofs.b5.Goals as goal
 
-pub returns-clause-value : goal.returns-clause-value
-unfolding B5 each_composition rule_at
-returns-clause-value c = c.rule_of_book.ensures.value
+pub returns : goal.returns
+unfolding B5 each_composition of_system if_composed
+returns c = range_all _ 32 c.all.ensures.ran (λ x b q e. search rules)

@@ -17,4 +17,4 @@ put_mod-requires c =
     }
 
 pub returns-clause-called : goal.returns-clause-called
-returns-clause-called c = λ is e. accept _ _ _ c.requires (mod_answers _ _ _ is e ∙ (sym c.in_ok-mod_answer.ensures)) (mod_holds _ _ _ is e (sym c.in_ok-mod_answer.ensures) (passes_plain _ _ c.requires) (search rules) c.put_mod.ensures.holds)
+returns-clause-called c = λ is e. accept _ _ _ c.requires (mod_answers _ _ _ is e ∙ (sym c.in_ok-mod_answer.ensures)) (mod_holds _ _ _ is e (sym c.in_ok-mod_answer.ensures) (passes_plain _ _ c.requires) c.put_mod.ensures.holds)

@@ -23,4 +23,4 @@ put_spec-requires c =
     )
 
 pub returns : goal.returns
-returns c = λ ps vs pb pe e. accept _ _ _ c.requires (spec_answers _ _ _ _ _ ps vs pb pe e ∙ (sym c.in_ok-spec_answer.ensures)) (spec_holds _ _ _ _ _ ps vs pb pe e (sym c.in_ok-spec_answer.ensures) (search rules) c.put_spec.ensures)
+returns c = λ ps vs pb pe e. accept _ _ _ c.requires (spec_answers _ _ _ _ _ ps vs pb pe e ∙ (sym c.in_ok-spec_answer.ensures)) (spec_holds _ _ _ _ _ ps vs pb pe e (sym c.in_ok-spec_answer.ensures) c.put_spec.ensures)

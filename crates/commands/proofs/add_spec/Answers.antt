@@ -2,15 +2,11 @@ use Rattle.std.proofs.Common.{rules}
 use Rattle.command_outcome.specs.Calls.{command_of}
 use Rattle.command_lists.specs.Said.{facilities_said, requirements_said}
 use Rattle.command_slices.specs.SliceLaws.{said_below, said_set}
-use Rattle.book_test.specs.TestedLaws.{tested_yes}
 use Rattle.commands.proofs.Tested.{refuse_none}
 use Rattle.commands.proofs.add_spec.Goals as goal
 
 pub returns-in_err-tested : goal.returns-in_err-tested
-returns-in_err-tested c = refuse_none _ _ _ c.in_err-tested.field-0.0 _ (search rules) c.in_err-tested.ensures
-
-pub add_spec_in-requires : goal.add_spec_in-requires
-add_spec_in-requires c = tested_yes _ _ c.in_ok-tested.ensures
+returns-in_err-tested c = refuse_none _ _ _ c.in_err-tested.field-0.0 _ (search rules) c.in_err-tested.ensures.value
 
 pub returns : goal.returns
 unfolding command_of

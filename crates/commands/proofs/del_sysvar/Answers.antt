@@ -1,10 +1,6 @@
 use Rattle.std.proofs.Common.{rules}
-use Rattle.book_test.specs.TestedLaws.{tested_yes}
 use Rattle.commands.proofs.Tested.{refuse_none}
 use Rattle.commands.proofs.del_sysvar.Goals as goal
 
 pub returns-in_err-tested : goal.returns-in_err-tested
-returns-in_err-tested c = refuse_none _ _ _ c.in_err-tested.field-0.0 _ (search rules) c.in_err-tested.ensures
-
-pub del_sysvar_in-requires : goal.del_sysvar_in-requires
-del_sysvar_in-requires c = tested_yes _ _ c.in_ok-tested.ensures
+returns-in_err-tested c = refuse_none _ _ _ c.in_err-tested.field-0.0 _ (search rules) c.in_err-tested.ensures.value

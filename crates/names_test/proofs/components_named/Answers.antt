@@ -1,15 +1,6 @@
 use Rattle.std.proofs.Common.{rules}
-use Rattle.sets.specs.LoopLaws.{all_start, all_turn, all_stop, all_end}
+use Rattle.names_test.specs.NamedLaws.{component_if_is}
 use Rattle.names_test.proofs.components_named.Goals as goal
 
-pub loop-c-init : goal.loop-c-init
-loop-c-init c = search (rules, all_start)
-
-pub returns-then-not-component_if : goal.returns-then-not-component_if
-returns-then-not-component_if c = search (rules, all_stop)
-
-pub loop-c-preserved : goal.loop-c-preserved
-loop-c-preserved c = search (rules, all_turn)
-
 pub returns : goal.returns
-returns c = search (rules, all_end)
+returns c = c.all.ensures _ (λ k r l p. search (rules, component_if_is))

@@ -1,9 +1,10 @@
 use Rattle.std.proofs.Common.{rules, arith}
-use Rattle.book.specs.Plain.{plain_of}
-use Rattle.book_rules.specs.WalkLaws.{is_member_lem}
-use Rattle.parts.specs.MarkLaws.{marked_found, marking_start, marking_turn, marking_skip, marking_end, marking_is, walk_falls, walk_limits}
+use Rattle.book.specs.Plain.{specs_of}
+use Rattle.book_rules.specs.TestLaws.{passes_sound}
+use Rattle.book_rules.specs.WalkLaws.{member_falls}
+use Rattle.parts.specs.MarkLaws.{good_book, marked_found, marking_start, marking_turn, marking_skip, marking_end, marking_is, walk_limits}
 use Rattle.parts.proofs.+mark.Goals as goal
-use Rattle.parts.proofs.+mark.Goals.{else-member-2, then-member-2}
+use Rattle.parts.proofs.+mark.Goals.{in-Some, in_default}
 
 pub returns-then-member : goal.returns-then-member
 returns-then-member t c = marked_found _ _ _ _ c.requires.closed c.member.ensures c.if-member.true
@@ -11,28 +12,22 @@ returns-then-member t c = marked_found _ _ _ _ c.requires.closed c.member.ensure
 pub loop-m-init : goal.loop-m-init
 loop-m-init t c = (search rules, marking_start _ _ _ _ c.requires.closed)
 
-pub member_version-w-requires-clause-m_value : goal.member_version-w-requires-clause-m_value
-member_version-w-requires-clause-m_value t c = is_member_lem _ _ _ _ _ c.members-members.ensures c.member-in-loop-m.ensures c.if-member-2.true
-
 pub mark-requires : goal.mark-requires
 mark-requires t c = (
-  walk_falls (plain_of c.args.book.now.sets c.args.book.now.numbers) c.requires.good _ _ _ _ _ c.decreases
-      c.members-members.ensures c.member-in-loop-m.ensures c.if-member-2.true,
-  (
-    walk_limits (plain_of c.args.book.now.sets c.args.book.now.numbers) c.requires.good _ _ _ _ c.member_version-w.ensures,
-    (c.requires.good, c.loop-m.invariant.1.onto.closed),
-  ),
+  member_falls (specs_of c.args.passing.book.now.sets c.args.passing.book.now.numbers) _ _ _ _ _ _ (passes_sound _ _ c.args.passing.passes)
+      c.decreases c.in-Some.ensures,
+  (walk_limits _ (good_book _ _ c.args.passing.passes) _ _ _ _ c.in-Some.ensures, c.loop-m.invariant.1.onto.closed),
 )
 
 pub loop-m-preserved : goal.loop-m-preserved
 loop-m-preserved t c = (
   omega arith,
-  elim c.if-member-2.branch [
-    | then-member-2 w ↦ marking_is _ _ _ _ _ w.marks-is (marking_turn _ _ _ _ _ _ _ _ c.loop-m.invariant.1 w.member_version-w.ensures w.mark.ensures)
-    | else-member-2 w ↦ marking_is _ _ _ _ _ w.marks-is
-        (marking_skip _ _ _ _ _ _ _ c.loop-m.invariant.1 c.members-members.ensures c.member-in-loop-m.ensures w.if-member-2.false)
+  elim c.match-version.branch [
+    | in-Some w ↦ marking_is _ _ _ _ _ w.marks-is (marking_turn _ _ _ _ _ _ _ _ c.loop-m.invariant.1 w.in-Some.ensures w.mark.ensures)
+    | in_default w ↦ marking_is _ _ _ _ _ w.marks-is (marking_skip _ _ _ _ _ _ c.loop-m.invariant.1 w.in_default.ensures)
   ],
 )
 
 pub returns : goal.returns
-returns t c = marking_end _ _ _ _ _ _ _ c.requires.good.system_limits c.loop-m-test.false c.loop-m.invariant.1 c.requires.c_bound.0 c.with.ensures
+returns t c =
+    marking_end _ _ _ _ _ _ _ (good_book _ _ c.args.passing.passes).system_limits (omega arith) c.loop-m.invariant.1 c.requires.c_bound.0 c.with.ensures

@@ -7,7 +7,7 @@ use Rattle.parts.specs.Marks.{Marking}
 use Rattle.parts.proofs.+mark.Given as goal
 
 abbrev pub decreases-mark : goal.decreases-mark
-decreases-mark l = systems_below (systems_of l.book.now.sets l.book.now.numbers) l.c
+decreases-mark l = systems_below (systems_of l.passing.book.now.sets l.passing.book.now.numbers) l.c
 
 abbrev pub invariant-loop-m : goal.invariant-loop-m
-invariant-loop-m l = (l.m ≤ 32) × Marking (systems_of l.book.sets l.book.numbers) l.c l.v l.m l.initial.marks l.marks
+invariant-loop-m l = (l.m ≤ 32) × Marking (systems_of l.passing.book.now.sets l.passing.book.now.numbers) l.c l.v l.m l.initial.marks l.marks

@@ -5,17 +5,17 @@ use Rattle.sets.specs.LoopLaws.{count_end, count_start}
 use Rattle.sets.specs.TestLaws.{count_le}
 use Rattle.query_choice.proofs.count_rows.Goals as goal
 
-pub loop-c-init : goal.loop-c-init
-loop-c-init c = (search rules, count_start _)
+pub loop-versions-init : goal.loop-versions-init
+loop-versions-init c = (search rules, count_start _)
 
 pub overflow_add-found : goal.overflow_add-found
 overflow_add-found c =
-    let e = rows_counted _ _ _ _ c.loop-c.invariant.1 c.count.ensures in
-    let l = count_le ((c.loop-c.c + 1) * 64) (row_in c.args.chosen.now) in
+    let e = rows_counted _ _ _ _ c.loop-versions.invariant.1 c.count.ensures in
+    let l = count_le ((c.loop-versions.versions-index + 1) * 64) (row_in c.args.chosen.now) in
     omega arith
 
-pub loop-c-preserved : goal.loop-c-preserved
-loop-c-preserved c = (omega arith, rows_counted _ _ _ _ c.loop-c.invariant.1 c.count.ensures)
+pub loop-versions-preserved : goal.loop-versions-preserved
+loop-versions-preserved c = (omega arith, rows_counted _ _ _ _ c.loop-versions.invariant.1 c.count.ensures)
 
 pub returns : goal.returns
-returns c = count_end 2048 _ _ _ (omega arith) (omega arith) c.loop-c.invariant.1
+returns c = count_end 2048 _ _ _ (omega arith) (omega arith) c.loop-versions.invariant.1

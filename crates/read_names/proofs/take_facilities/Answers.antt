@@ -1,38 +1,8 @@
-use Rattle.std.proofs.Common.{◌≡◌, ◌∙◌, ap, arith, length}
-use Rattle.read_tokens.specs.ReaderLaws.{entry_last, entry_less, entry_on, entry_wrong, leads_by}
-use Rattle.text_laws.specs.Takes.{name_takes}
+use Rattle.read_tokens.specs.SequenceLaws.{read_seen}
+use Rattle.read_tokens.specs.Steps.{FacilityStep, facility_start, facility_state}
 use Rattle.read_names.proofs.take_facilities.Goals as goal
 
-pub loop-got-init : goal.loop-got-init
-loop-got-init c = (leads_by _ _ _ c.args.reader.now _, c.requires.kept)
-
-pub take_facility-requires : goal.take_facility-requires
-take_facility-requires c = record { kept = c.loop-got.invariant.1 }
-
-pub returns-in_err-got-clause-answers : goal.returns-in_err-got-clause-answers
-returns-in_err-got-clause-answers c =
-    rw c.from_residual.ensures
-    (entry_wrong _ _ _ name_takes c.args.reader.now c.loop-got.reader _ _ c.loop-got.invariant.0 c.in_err-got.ensures.answers)
-
-pub returns-then-not-passes_mark-clause-answers : goal.returns-then-not-passes_mark-clause-answers
-returns-then-not-passes_mark-clause-answers c =
-    let g = c.in_ok-got.ensures.answers in
-    entry_last _ _ _ name_takes c.args.reader.now c.loop-got.reader _ _ c.loop-got.invariant.0 _ c.take_facility.new.reader g.0 g.1
-    c.passes_mark.new.self c.if-not-passes_mark.ensures
-
-pub loop-got-smaller : goal.loop-got-smaller
-loop-got-smaller c =
-    let g = c.in_ok-got.ensures.answers in
-    let l = entry_less _ _ _ name_takes c.args.reader.now c.loop-got.reader _ _ c.loop-got.invariant.0 _ c.take_facility.new.reader g.0 g.1
-    c.passes_mark.new.self c.if-not-passes_mark.ensures in
-    let m = c.if-not-passes_mark.ensures in
-    let same : length c.passes_mark.new.self.text.now ≡ length c.loop-got.reader.text.now = ap (λ t. length t.now) (m.1 ∙ g.1) in
-    omega arith
-
-pub loop-got-preserved : goal.loop-got-preserved
-loop-got-preserved c =
-    let g = c.in_ok-got.ensures.answers in (
-      entry_on _ _ _ name_takes c.args.reader.now c.loop-got.reader _ _ c.loop-got.invariant.0 _ c.take_facility.new.reader g.0 g.1
-          c.passes_mark.new.self c.if-not-passes_mark.ensures,
-      c.in_ok-got.ensures.kept_2,
-    )
+pub returns : goal.returns
+unfolding facility_start facility_state
+returns c =
+    read_seen (λ s. facility_state s.0.table.rows s.2.0) FacilityStep _ _ _ c.args.reader.now c.take_list.new.reader c.in_ok-got.ensures

@@ -1,66 +1,47 @@
-use Rattle.std.proofs.Common.{◌∙◌}
-use Rattle.text.specs.Language.{comma, list_of, name, semicolon, sys_version, want}
-use Rattle.read_tokens.specs.Readers.{key_at}
-use Rattle.read_tokens.specs.ReaderLaws.{got_on, none_on}
-use Rattle.read_sys.specs.SysRequestLaws.{sys_no_name, sys_no_use, sys_no_usable, sys_no_mark, sys_no_versions, sys_no_end, sys_asked_lem}
+use Rattle.text.specs.Language.{add_sys, names}
+use Rattle.read_tokens.specs.ListLaws.{each_on}
+use Rattle.read_tokens.specs.SequenceLaws.{before_lacks, behind_lacks, behind_read, end_lacks, end_read, first_lacks}
+use Rattle.read_tokens.specs.SequenceLaws.{give_read, next_lacks, next_read}
+use Rattle.read_sys.specs.SysLaws.{behind_use, sys_asked, usables_start, use_read, versions_start}
+use Rattle.read_sys.specs.SysSteps.{SysStep, UsableStep, sys_state, usable_state}
 use Rattle.read_sys.proofs.read_sys.Goals as goal
 
-pub returns-in_err-c-clause-by_index : goal.returns-in_err-c-clause-by_index
-returns-in_err-c-clause-by_index c =
-    let r = c.args.reader.now in λ f i. rw c.from_residual.ensures (sys_no_name r.text.now r.at c.in_err-c.ensures.answers)
+pub returns-in_err-v : goal.returns-in_err-v
+unfolding add_sys names
+returns-in_err-v c = record {
+  by_index = λ f i.
+      let r = c.args.reader.now in let s = c.take_name.new.reader in let k = c.key.new.self in let u = c.take_list.new.reader in
+      let m = c.mark.new.self in
+      rw c.from_residual-in_err-v.ensures
+      (next_lacks r s c.in_ok-c.ensures _ (λ x h. behind_use _ s k c.in_ok-key.ensures (next_lacks k u c.in_ok-u.ensures _ (λ us h.
+      behind_lacks u m c.in_ok-mark.ensures _ (first_lacks _ m c.in_err-v.ensures _)))));
+}
 
-pub returns-in_err-key-clause-by_index : goal.returns-in_err-key-clause-by_index
-returns-in_err-key-clause-by_index c =
-    let r = c.args.reader.now in let s = c.take_name.new.reader in let n = c.in_ok-c.ensures.answers in
-    λ f i. rw c.from_residual-in_err-key.ensures (
-    sys_no_use _ _ _ _ n.0 (none_on (want (key_at 19)) r s n.1 s.at c.in_err-key.ensures))
+pub returns-in_err-key-2 : goal.returns-in_err-key-2
+unfolding add_sys names
+returns-in_err-key-2 c = record {
+  by_index = λ f i.
+      let r = c.args.reader.now in let s = c.take_name.new.reader in let k = c.key.new.self in let u = c.take_list.new.reader in
+      let m = c.mark.new.self in let v = c.take_list-2.new.reader in
+      rw c.from_residual-in_err-key-2.ensures
+      (next_lacks r s c.in_ok-c.ensures _ (λ x h. behind_use _ s k c.in_ok-key.ensures (next_lacks k u c.in_ok-u.ensures _ (λ us h.
+      behind_lacks u m c.in_ok-mark.ensures _
+      (next_lacks m v c.in_ok-v.ensures _ (λ ks h. before_lacks _ v (end_lacks v c.in_err-key-2.ensures) _))))));
+}
 
-pub returns-in_err-u-clause-by_index : goal.returns-in_err-u-clause-by_index
-returns-in_err-u-clause-by_index c =
-    let r = c.args.reader.now in let s = c.take_name.new.reader in let x = c.key.new.self in
-    let n = c.in_ok-c.ensures.answers in let k = c.in_ok-key.ensures in let xr = k.1 ∙ n.1 in
-    λ f i. rw c.from_residual-in_err-u.ensures (
-    sys_no_usable _ _ _ _ n.0 _ (got_on _ r s n.1 _ _ _ k.0) (none_on (list_of comma name) r x xr x.at c.in_err-u.ensures.answers))
-
-pub returns-in_err-mark-clause-by_index : goal.returns-in_err-mark-clause-by_index
-returns-in_err-mark-clause-by_index c =
-    let r = c.args.reader.now in let s = c.take_name.new.reader in let x = c.key.new.self in let y = c.take_usables.new.reader in
-    let n = c.in_ok-c.ensures.answers in let k = c.in_ok-key.ensures in let u = c.in_ok-u.ensures.answers in
-    let xr = k.1 ∙ n.1 in let yr = u.1 ∙ xr in
-    λ f i. rw c.from_residual-in_err-mark.ensures (
-    sys_no_mark _ _ _ _ n.0 _ (got_on _ r s n.1 _ _ _ k.0) _ _ (got_on _ r x xr _ _ _ u.0)
-    (none_on (want semicolon) r y yr y.at c.in_err-mark.ensures))
-
-pub returns-in_err-v-clause-by_index : goal.returns-in_err-v-clause-by_index
-returns-in_err-v-clause-by_index c =
-    let r = c.args.reader.now in let s = c.take_name.new.reader in let x = c.key.new.self in let y = c.take_usables.new.reader in
-    let z = c.mark.new.self in
-    let n = c.in_ok-c.ensures.answers in let k = c.in_ok-key.ensures in let u = c.in_ok-u.ensures.answers in let q = c.in_ok-mark.ensures in
-    let xr = k.1 ∙ n.1 in let yr = u.1 ∙ xr in let zr = q.1 ∙ yr in
-    λ f i. rw c.from_residual-in_err-v.ensures (
-    sys_no_versions _ _ _ _ n.0 _ (got_on _ r s n.1 _ _ _ k.0) _ _ (got_on _ r x xr _ _ _ u.0) _ (got_on _ r y yr _ _ _ q.0)
-    (none_on (list_of semicolon sys_version) r z zr z.at c.in_err-v.ensures.answers))
-
-pub returns-in_err-key-2-clause-by_index : goal.returns-in_err-key-2-clause-by_index
-returns-in_err-key-2-clause-by_index c =
-    let r = c.args.reader.now in let s = c.take_name.new.reader in let x = c.key.new.self in let y = c.take_usables.new.reader in
-    let z = c.mark.new.self in let w = c.take_sys_versions.new.reader in
-    let n = c.in_ok-c.ensures.answers in let k = c.in_ok-key.ensures in let u = c.in_ok-u.ensures.answers in let q = c.in_ok-mark.ensures in
-    let v = c.in_ok-v.ensures.answers in let xr = k.1 ∙ n.1 in let yr = u.1 ∙ xr in let zr = q.1 ∙ yr in
-    λ f i. rw c.from_residual-in_err-key-2.ensures (
-    sys_no_end _ _ _ _ n.0 _ (got_on _ r s n.1 _ _ _ k.0) _ _ (got_on _ r x xr _ _ _ u.0) _ (got_on _ r y yr _ _ _ q.0) _ _
-    (got_on _ r z zr _ _ _ v.0) (none_on (want (key_at 3)) r w (v.1 ∙ zr) w.at c.in_err-key-2.ensures))
-
-pub returns-clause-by_index : goal.returns-clause-by_index
-returns-clause-by_index c =
-    let r = c.args.reader.now in let s = c.take_name.new.reader in let x = c.key.new.self in let y = c.take_usables.new.reader in
-    let z = c.mark.new.self in let w = c.take_sys_versions.new.reader in
-    let n = c.in_ok-c.ensures.answers in let k = c.in_ok-key.ensures in let u = c.in_ok-u.ensures.answers in let q = c.in_ok-mark.ensures in
-    let v = c.in_ok-v.ensures.answers in let d = c.in_ok-key-2.ensures in
-    let xr = k.1 ∙ n.1 in let yr = u.1 ∙ xr in let zr = q.1 ∙ yr in let wr = v.1 ∙ zr in
-    λ f i. (
-      sys_asked_lem _ _ _ _ _ _ _ _ _ _ _ _ _ _ _ _ _ _ _ _ _ c.no_usable_names.ensures c.no_sys_versions.ensures n.0
-          (got_on _ r s n.1 _ _ _ k.0) (got_on _ r x xr _ _ _ u.0) (got_on _ r y yr _ _ _ q.0) (got_on _ r z zr _ _ _ v.0)
-          (got_on _ r w wr _ _ _ d.0) c.sys_request.ensures f i,
-      d.1 ∙ wr,
-    )
+pub returns : goal.returns
+unfolding add_sys names
+returns c = record {
+  by_index = λ f i.
+      let r = c.args.reader.now in let s = c.take_name.new.reader in let k = c.key.new.self in let u = c.take_list.new.reader in
+      let m = c.mark.new.self in let v = c.take_list-2.new.reader in let z = c.key-2.new.self in
+      next_read r s c.in_ok-c.ensures _ z (λ x e.
+      behind_read s k (use_read s k c.in_ok-key.ensures) _ z
+      (next_read k u c.in_ok-u.ensures _ z (λ us p.
+      behind_read u m c.in_ok-mark.ensures _ z
+      (next_read m v c.in_ok-v.ensures _ z (λ ks b.
+      behind_read v z (end_read v z c.in_ok-key-2.ensures) _ z
+      (give_read _ z (sys_asked c.args.tables.now c.take_list-2.new.table _ _ _ _ _ f i e
+      (rw (usables_start _ c.none.result c.none.ensures) at (each_on (λ s. usable_state s.0.table.rows s.2.0) UsableStep _ _ us p))
+      (rw (versions_start _ c.none-3.result c.none-3.ensures) at (each_on (λ s. sys_state s.0 s.2.0) SysStep _ _ ks b)) c.sys_request.ensures)))))));
+}

@@ -1,38 +1,54 @@
-use Rattle.std.proofs.Common.{◌∙◌, sym}
-use Rattle.session_add.specs.AddingLaws.{ready_asked, ready_named, way_accepted, way_no_place, way_refused}
-use Rattle.session_add.specs.AskedLaws.{mod_adds}
+use Rattle.std.proofs.Common.{◌∙◌, ap, refl, sym}
+use Rattle.names.specs.declared.table.Table.{Table}
+use Rattle.session_add.specs.AddingLaws.{copied, ready_asked, ready_named, way_accepted, way_no_place, way_refused}
+use Rattle.session_add.specs.AskedLaws.{mod_adds, mod_called}
 use Rattle.session_add_spec.proofs.add_mod.Goals as goal
 
 pub returns-in_err-r-clause-answers : goal.returns-in_err-r-clause-answers
-returns-in_err-r-clause-answers c = rw c.from_residual.ensures (c.in_err-r.ensures.by_index c.args.state.now.names.facs)
+returns-in_err-r-clause-answers c = rw c.from_residual.ensures (c.in_err-r.ensures.by_index c.args.state.now.names.facs.rows)
 
-pub returns-then-not-r-clause-answers : goal.returns-then-not-r-clause-answers
-returns-then-not-r-clause-answers c =
-    way_no_place c.args.state.now.ready c.args.reader.now c.read_mod.new.reader (c.in_ok-r.ensures.by_index _) _ _ _ _
-    (λ x. mod_adds _ _ x _) c.if-not-r.true
+pub returns-in_default-clause-answers : goal.returns-in_default-clause-answers
+returns-in_default-clause-answers c =
+    way_no_place c.args.state.now c.args.reader.now c.read_mod.new.reader (c.in_ok-r.ensures.by_index _)
+    (copied c.args.state.now c.pairs-pairs.result c.pairs-pairs.ensures.comps c.pairs-pairs.ensures.vers refl
+    (ap (λ (t : Table 256). t.rows) c.impls-impls.ensures))
+    _ _ _ _ (λ x. mod_adds _ _ x _) c.in_default.is
 
 pub invariant_of-state : goal.invariant_of-state
 invariant_of-state c =
-    let before = c.args.state.now.ready in let k = c.in_ok-r.ensures in
+    let s = c.args.state.now in
     record {
-      ready = ready_named before c.args.reader.now c.read_mod.new.reader (k.by_index _) _ _ _ _ (λ x. mod_adds _ _ x _)
-          c.if-not-r.false _ c.answer_mod-answer.ensures k.kept_4 k.kept_5 before.facs k.kept_6;
+      ready = ready_named c.args.state.now c.args.reader.now c.read_mod.new.reader (c.in_ok-r.ensures.by_index _)
+          (copied c.args.state.now c.pairs-pairs.result c.pairs-pairs.ensures.comps c.pairs-pairs.ensures.vers refl
+          (ap (λ (t : Table 256). t.rows) c.impls-impls.ensures))
+          _ _ _ _ (λ x. mod_adds _ _ x _)
+          _ c.in-Some.is _ (mod_called _ _ _ _ _ _ c.add_mod_in-answer.ensures.called)
+          c.read_mod.new.tables.comps.kept c.read_mod.new.tables.vers.kept s.ready.facs c.read_mod.new.impls.kept;
     }
 
 pub invariant_of-state-else-is_ok : goal.invariant_of-state-else-is_ok
-invariant_of-state-else-is_ok c =
-    let before = c.args.state.now.ready in let k = c.in_ok-r.ensures in
-    record {
-      ready = ready_asked before c.args.reader.now c.read_mod.new.reader (k.by_index _) _ _ _ _ (λ x. mod_adds _ _ x _)
-          c.if-not-r.false _ c.answer_mod-answer.ensures;
-    }
+invariant_of-state-else-is_ok c = record {
+  ready = ready_asked c.args.state.now c.args.reader.now c.read_mod.new.reader (c.in_ok-r.ensures.by_index _)
+      (copied c.args.state.now c.pairs-pairs.result c.pairs-pairs.ensures.comps c.pairs-pairs.ensures.vers refl
+      (ap (λ (t : Table 256). t.rows) c.impls-impls.ensures))
+      _ _ _ _ (λ x. mod_adds _ _ x _)
+      _ c.in-Some.is _ (mod_called _ _ _ _ _ _ c.add_mod_in-answer.ensures.called);
+}
 
 pub returns-then-is_ok-clause-answers : goal.returns-then-is_ok-clause-answers
 returns-then-is_ok-clause-answers c =
-    way_accepted c.args.state.now.ready c.args.reader.now c.read_mod.new.reader (c.in_ok-r.ensures.by_index _) _ _ _ _
-    (λ x. mod_adds _ _ x _) c.if-not-r.false _ c.answer_mod-answer.ensures (sym c.is_ok.ensures.value ∙ c.if-is_ok.true)
+    way_accepted c.args.state.now c.args.reader.now c.read_mod.new.reader (c.in_ok-r.ensures.by_index _)
+    (copied c.args.state.now c.pairs-pairs.result c.pairs-pairs.ensures.comps c.pairs-pairs.ensures.vers refl
+    (ap (λ (t : Table 256). t.rows) c.impls-impls.ensures))
+    _ _ _ _ (λ x. mod_adds _ _ x _)
+    _ c.in-Some.is _ (mod_called _ _ _ _ _ _ c.add_mod_in-answer.ensures.called)
+    (sym c.is_ok.ensures.value ∙ c.if-is_ok.true)
 
 pub returns-else-is_ok-clause-answers : goal.returns-else-is_ok-clause-answers
 returns-else-is_ok-clause-answers c =
-    way_refused c.args.state.now.ready c.args.reader.now c.read_mod.new.reader (c.in_ok-r.ensures.by_index _) _ _ _ _
-    (λ x. mod_adds _ _ x _) c.if-not-r.false _ c.answer_mod-answer.ensures (sym c.is_ok.ensures.value ∙ c.if-is_ok.false)
+    way_refused c.args.state.now c.args.reader.now c.read_mod.new.reader (c.in_ok-r.ensures.by_index _)
+    (copied c.args.state.now c.pairs-pairs.result c.pairs-pairs.ensures.comps c.pairs-pairs.ensures.vers refl
+    (ap (λ (t : Table 256). t.rows) c.impls-impls.ensures))
+    _ _ _ _ (λ x. mod_adds _ _ x _)
+    _ c.in-Some.is _ (mod_called _ _ _ _ _ _ c.add_mod_in-answer.ensures.called)
+    (sym c.is_ok.ensures.value ∙ c.if-is_ok.false)

@@ -1,11 +1,12 @@
-use Rattle.session_rows.specs.RowLaws.{answer_put, answer_refused, no_pairs}
-use Rattle.session_rows.specs.Rows.{pairs_in}
+use Rattle.names.specs.Stored.{tables}
+use Rattle.session_rows.specs.RowLaws.{rows_none, rows_put}
+use Rattle.session_rows.specs.Rows.{listed_in}
 use Rattle.session_rows.proofs.put_listed.Goals as goal
 
-pub returns-in-Ok : goal.returns-in-Ok
-returns-in-Ok c =
-    answer_put _ (λ n. pairs_in c.args.comps.now c.args.vers.now n c.args.rows.now) _ c.in-Ok.is c.put_answer_row.ensures c.put_pairs.ensures
+pub returns-in-Some : goal.returns-in-Some
+unfolding listed_in
+returns-in-Some c =
+    rows_put _ (listed_in (tables c.args.names.now)) _ c.in-Some.pairs c.in-Some.ensures.value c.in-Some.ensures.puts c.put_pairs.ensures
 
-pub returns-in-Err : goal.returns-in-Err
-returns-in-Err c =
-    answer_refused _ (λ n. pairs_in c.args.comps.now c.args.vers.now n c.args.rows.now) (no_pairs _ _ _) _ c.in-Err.is c.put_refusal.ensures
+pub returns-in_default : goal.returns-in_default
+returns-in_default c = rows_none _ (listed_in (tables c.args.names.now)) _ c.in_default.ensures.value c.in_default.ensures.puts

@@ -1,11 +1,8 @@
-use Rattle.std.proofs.Common.{arith}
 use Rattle.svcd.specs.LeavesLaws.{empty_fresh, empty_ready}
 use Rattle.svcd.proofs.empty.Goals as goal
 
 pub invariant_of-result : goal.invariant_of-result
-invariant_of-result c = record {
-  ready = empty_ready _ _ _ _ _ _ c.fresh.ensures c.no_names.ensures (omega arith) (omega arith) (omega arith) (omega arith);
-}
+invariant_of-result c = record { ready = empty_ready _ _ c.fresh.ensures c.empty.ensures }
 
 pub returns : goal.returns
-returns c = empty_fresh _ _ _ _ _ _ c.fresh.ensures c.no_names.ensures
+returns c = empty_fresh _ _ c.fresh.ensures c.empty.ensures

@@ -1,31 +1,33 @@
-use Rattle.std.proofs.Common.{arith, ◌∙◌, ap, refl}
+use Rattle.std.proofs.Common.{rules}
+use Rattle.model.specs.Lists.{non_empty}
 use Rattle.sets.specs.Tests.{◌&◌, ◌≤?◌}
-use Rattle.model.specs.Lists.{every, non_empty}
 use Rattle.text.specs.Bytes.{short}
-use Rattle.text_laws.specs.TextLaws.{every-none}
-use Rattle.names.specs.StoredLaws.{zeros_empty}
 use Rattle.try_names.proofs.main.Goals as goal
 
-pub show_entered-requires-clause-names_value : goal.show_entered-requires-clause-names_value
-show_entered-requires-clause-names_value c = ap (every non_empty) (zeros_empty 3 99 (omega arith)) ∙ every-none non_empty
+pub enter-requires : goal.enter-requires
+unfolding short non_empty ◌&◌ ◌≤?◌
+enter-requires c = search rules
 
-pub show_entered-requires-clause-word_value : goal.show_entered-requires-clause-word_value
-show_entered-requires-clause-word_value c = unfold short non_empty ◌&◌ ◌≤?◌ in refl
+pub enter-requires-2 : goal.enter-requires-2
+unfolding short non_empty ◌&◌ ◌≤?◌
+enter-requires-2 c = search rules
 
-pub show_entered-requires-2-clause-word_value : goal.show_entered-requires-2-clause-word_value
-show_entered-requires-2-clause-word_value c = unfold short non_empty ◌&◌ ◌≤?◌ in refl
+pub enter-requires-3 : goal.enter-requires-3
+unfolding short non_empty ◌&◌ ◌≤?◌
+enter-requires-3 c = search rules
 
-pub show_entered-requires-3-clause-word_value : goal.show_entered-requires-3-clause-word_value
-show_entered-requires-3-clause-word_value c = unfold short non_empty ◌&◌ ◌≤?◌ in refl
+pub enter-requires-4 : goal.enter-requires-4
+unfolding short non_empty ◌&◌ ◌≤?◌
+enter-requires-4 c = search rules
 
-pub show_entered-requires-4-clause-word_value : goal.show_entered-requires-4-clause-word_value
-show_entered-requires-4-clause-word_value c = unfold short non_empty ◌&◌ ◌≤?◌ in refl
+pub enter-requires-5 : goal.enter-requires-5
+unfolding short non_empty ◌&◌ ◌≤?◌
+enter-requires-5 c = search rules
 
-pub show_entered-requires-5-clause-word_value : goal.show_entered-requires-5-clause-word_value
-show_entered-requires-5-clause-word_value c = unfold short non_empty ◌&◌ ◌≤?◌ in refl
+pub lookup-requires : goal.lookup-requires
+unfolding short non_empty ◌&◌ ◌≤?◌
+lookup-requires c = search rules
 
-pub show_found-requires-clause-word_value : goal.show_found-requires-clause-word_value
-show_found-requires-clause-word_value c = unfold short non_empty ◌&◌ ◌≤?◌ in refl
-
-pub show_found-requires-2-clause-word_value : goal.show_found-requires-2-clause-word_value
-show_found-requires-2-clause-word_value c = unfold short non_empty ◌&◌ ◌≤?◌ in refl
+pub lookup-requires-2 : goal.lookup-requires-2
+unfolding short non_empty ◌&◌ ◌≤?◌
+lookup-requires-2 c = search rules

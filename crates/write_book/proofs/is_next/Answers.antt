@@ -4,4 +4,4 @@ use Rattle.write_book.proofs.is_next.Goals as goal
 
 pub returns : goal.returns
 unfolding ◌&◌ ~◌
-returns c = is_next_lem _ _ _ c.requires.systems_value c.usable.ensures c.minus-left.ensures c.member.ensures c.disjoint.ensures
+returns c = is_next_lem _ _ _ c.requires c.usable.ensures c.minus-left.ensures c.member.ensures c.disjoint.ensures

@@ -5,9 +5,6 @@ use Rattle.write_bytes.specs.ByNameLaws.{fewer, first_below}
 use Rattle.write_book.specs.SystemLaws.{next_found, next_none, next_not}
 use Rattle.write_book.proofs.next_system.Goals as goal
 
-pub is_next-requires-clause-s_bound : goal.is_next-requires-clause-s_bound
-is_next-requires-clause-s_bound c = first_below _ _ _ _ (found_at _ _ _ c.first_by_name.ensures c.in-Some.is)
-
 pub returns-then-is_next : goal.returns-then-is_next
 unfolding answered
 returns-then-is_next c =

@@ -1,14 +1,14 @@
 use Rattle.std.proofs.Common.{◌≤◌}
 use Rattle.sets.specs.Sets.{bit}
-use Rattle.names.specs.Stored.{table_of, tables}
+use Rattle.names.specs.Stored.{table_in, tables}
 use Rattle.book.specs.Plain.{plain, systems_of}
-use Rattle.write_line.specs.Lines.{line_of, system_lines}
+use Rattle.text.specs.Written.{line, sys_of}
+use Rattle.write_line.specs.Lines.{system_lines}
 use Rattle.write_book.specs.SystemLaws.{InOrder}
-use Rattle.write_version.specs.declared.Kind.TheVariants.{System}
 use Rattle.write_book.proofs.put_systems.Given as goal
 
 abbrev pub invariant-loop-i : goal.invariant-loop-i
 invariant-loop-i l =
     (l.i ≤ 32) × InOrder (system_lines (plain l.book) (tables l.names))
-    (line_of System (plain l.book) (tables l.names)) (systems_of l.book.sets l.book.numbers) (table_of 32 l.names.comps) l.i (bit l.done)
+    (λ s. line (sys_of (plain l.book) (tables l.names) s)) (systems_of l.book.sets l.book.numbers) (table_in l.names.comps) l.i (bit l.done)
     l.initial.writer l.writer

@@ -1,13 +1,18 @@
+use Rattle.std.proofs.Common.{rules}
+use Rattle.book.specs.Plain.{plain}
+use Rattle.model.specs.Book.{is_module, specified}
+use Rattle.names.specs.Stored.{tables}
+use Rattle.text.specs.Written.{line, mod_of, spec_of}
 use Rattle.write_bytes.specs.WritesLaws.{writes_as, writes_then}
-use Rattle.write_line.specs.Lines.{has_line}
 use Rattle.write_book.specs.TextLaws.{text_is}
 use Rattle.write_book.proofs.put_text.Goals as goal
 
-pub put_systems-requires : goal.put_systems-requires
-unfolding has_line
-put_systems-requires c = c.components_of-systems.ensures
-
 pub returns : goal.returns
 returns c =
-    writes_as (text_is _ _ _ _ _ c.components_of-specs.ensures c.components_of-modules.ensures)
-    (writes_then c.put_lines.ensures (writes_then c.put_lines-2.ensures c.put_systems.ensures))
+    let b = plain c.args.book.now in
+    let t = tables c.args.names.now in
+    let d = c.those-specs.ensures (specified b.specs) (λ k r l p. search rules) in
+    let e = c.those-modules.ensures (is_module b.modules) (λ k r l p. search rules) in
+    writes_as (text_is _ _ _ _ _ d e)
+    (writes_then (c.put_listed.ensures (λ k. line (spec_of b t k)) (λ a b k h p. search rules))
+    (writes_then (c.put_listed-2.ensures (λ k. line (mod_of b t k)) (λ a b k h p. search rules)) c.put_systems.ensures))

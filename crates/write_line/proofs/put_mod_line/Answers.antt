@@ -1,9 +1,15 @@
+use Rattle.std.proofs.Common.{rules}
 use Rattle.text.specs.Bytes.{bytes}
+use Rattle.book.specs.Plain.{plain}
+use Rattle.names.specs.Stored.{tables}
 use Rattle.write_bytes.specs.WritesLaws.{writes_as, writes_then}
-use Rattle.write_line.specs.LineLaws.{mod_line_is}
+use Rattle.write_line.specs.LineLaws.{mod_line_is, versions_of_module}
+use Rattle.write_version.specs.Pieces.{mod_version}
 use Rattle.write_line.proofs.put_mod_line.Goals as goal
 
 pub returns : goal.returns
 unfolding bytes
 returns c =
-    writes_as (mod_line_is _ _ _ _ _ _ c.name.ensures) (writes_then c.put.ensures (writes_then c.put-2.ensures c.put_ending.ensures))
+    writes_as (mod_line_is _ _ _ _ _ _ c.name.ensures (versions_of_module _ _ _ c.is_module.ensures c.versions_if-versions.ensures))
+    (writes_then c.put.ensures (writes_then c.put-2.ensures
+    (c.put_ending.ensures (mod_version (plain c.args.book.now) (tables c.args.names.now) c.args.c) (λ a b v h p. search rules))))

@@ -5,10 +5,10 @@ use Rattle.write_order.proofs.first_by_name.Goals as goal
 
 pub loop-k-init : goal.loop-k-init
 unfolding answered
-loop-k-init c = first_start _ _ _
+loop-k-init g c = first_start _ _ _
 
 pub loop-k-preserved : goal.loop-k-preserved
-loop-k-preserved c = c.first_with-best.ensures ∙ first_turn _ _ _ _ _ c.loop-k-test.true c.loop-k.auto.k c.loop-k.invariant
+loop-k-preserved g c = c.first_with-best.ensures ∙ first_turn _ _ _ _ _ c.loop-k-test.true c.loop-k.auto.k c.loop-k.invariant
 
 pub returns : goal.returns
-returns c = first_end _ _ _ _ _ c.loop-k-test.false c.loop-k.invariant
+returns g c = first_end _ _ _ _ _ c.loop-k-test.false c.loop-k.invariant

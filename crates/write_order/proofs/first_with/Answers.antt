@@ -7,21 +7,21 @@ use Rattle.write_bytes.specs.ByNameLaws.{comes_first, not_in_set, only_one, stay
 use Rattle.write_order.proofs.first_with.Goals as goal
 
 pub returns-then-not-member : goal.returns-then-not-member
-returns-then-not-member c = not_in_set _ _ _ _ c.member.ensures (ap not c.if-not-member.true)
+returns-then-not-member g c = not_in_set _ _ _ _ c.member.ensures (ap not c.if-not-member.true)
 
 pub returns-in_default : goal.returns-in_default
 unfolding answered
-returns-in_default c =
+returns-in_default g c =
     only_one _ _ _ _ c.member.ensures (ap not c.if-not-member.false) (found_nothing _ _ refl c.in_default.is)
 
 pub returns-then-lt : goal.returns-then-lt
 unfolding answered
-returns-then-lt c =
+returns-then-lt g c =
     comes_first _ _ _ _ c.member.ensures (ap not c.if-not-member.false) _ (found_at _ _ _ refl c.in-Some.is) c.name.ensures c.name-2.ensures
     (before_as _ _ _ c.lt.ensures) c.if-lt.true
 
 pub returns : goal.returns
-returns c =
+returns g c =
     ap answered (sym c.in-Some.is)
     ∙ stays_first _ _ _ _ c.member.ensures (ap not c.if-not-member.false) _ (found_at _ _ _ refl c.in-Some.is) c.name.ensures c.name-2.ensures
     (before_as _ _ _ c.lt.ensures) c.if-lt.false

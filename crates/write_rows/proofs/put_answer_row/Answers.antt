@@ -1,10 +1,9 @@
-use Rattle.std.proofs.Common.{refl}
-use Rattle.write_rows.specs.RestLaws.{rest_puts}
+use Rattle.std.proofs.Common.{rules}
+use Rattle.text.specs.Session.{decimal, row}
 use Rattle.write_rows.proofs.put_answer_row.Goals as goal
 
+pub put_rest-requires-clause-puts : goal.put_rest-requires-clause-puts
+put_rest-requires-clause-puts c = (row c.args.i (decimal c.args.answer), λ a b k. search rules)
+
 pub returns : goal.returns
-returns c = record {
-  puts = rest_puts _ c.args.writer.now _ c.start.ensures.value c.in-Some.is c.answer_row-row.ensures.value
-      c.answer_row-row.ensures.out_after c.behind-writer.ensures;
-  same_slice = refl;
-}
+returns c = c.put_rest.ensures _ (λ a b k. search rules)

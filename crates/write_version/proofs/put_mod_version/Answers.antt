@@ -6,5 +6,5 @@ use Rattle.write_version.proofs.put_mod_version.Goals as goal
 pub returns : goal.returns
 unfolding bytes
 returns c =
-    writes_as (mod_version_is _ _ _ _ _ _ _ c.name.ensures c.implementation.ensures c.from-i.ensures c.name-2.ensures)
+    writes_as (mod_version_is _ _ _ _ _ _ _ _ c.name.ensures c.implementation.ensures c.unwrap_or-i.ensures c.from.ensures c.name-2.ensures)
     (writes_then c.put.ensures (writes_then c.put-2.ensures (writes_then c.put-3.ensures c.put-4.ensures)))

@@ -1,12 +1,7 @@
 use Rattle.std.proofs.Common.{rules}
-use Rattle.sets.specs.LoopLaws.{all_start, all_turn, all_stop}
+use Rattle.sets.specs.RangeLaws.{range_all}
+use Rattle.book.specs.Plain.{members_low}
 use Rattle.book.proofs.Book.all_members_low.Goals as goal
 
-pub loop-j-init : goal.loop-j-init
-loop-j-init c = search (rules, all_start)
-
-pub returns-then-not-members_low : goal.returns-then-not-members_low
-returns-then-not-members_low c = search (rules, all_stop)
-
-pub loop-j-preserved : goal.loop-j-preserved
-loop-j-preserved c = search (rules, all_turn)
+pub returns : goal.returns
+returns c = range_all (members_low _ _ _) 8 c.all.ensures.ran (λ x b q k. search rules)

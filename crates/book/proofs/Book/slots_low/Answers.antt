@@ -1,12 +1,9 @@
 use Rattle.std.proofs.Common.{rules}
-use Rattle.sets.specs.LoopLaws.{all_start, all_turn, all_stop}
+use Rattle.sets.specs.RangeLaws.{range_all}
+use Rattle.sets.specs.Tests.{◌≤?◌}
+use Rattle.book.specs.Plain.{slot_low}
 use Rattle.book.proofs.Book.slots_low.Goals as goal
 
-pub loop-j-init : goal.loop-j-init
-loop-j-init c = search (rules, all_start)
-
-pub returns-then-not-slot_low : goal.returns-then-not-slot_low
-returns-then-not-slot_low c = search (rules, all_stop)
-
-pub loop-j-preserved : goal.loop-j-preserved
-loop-j-preserved c = search (rules, all_turn)
+pub returns : goal.returns
+unfolding slot_low ◌≤?◌
+returns c = range_all (slot_low _ _) 8 c.all.ensures.ran (λ x b q k. search rules)

@@ -1,18 +1,7 @@
 use Rattle.std.proofs.Common.{rules, refl, length, ◌≡◌}
 use Rattle.words.specs.WordLaws.{word_ends}
-use Rattle.read_tokens.specs.TokenLaws.{name_open, name_none, name_other, name_yes}
-use Rattle.read_tokens.proofs.reader.Reader.name.Goals.{then-is_empty-via-then-is_empty, then-is_empty-via-else-is_empty+then-not-is_name_word}
+use Rattle.read_tokens.specs.TokenLaws.{name_yes}
 use Rattle.read_tokens.proofs.reader.Reader.name.Goals as goal
-
-pub returns-in_err-start : goal.returns-in_err-start
-returns-in_err-start c = search (rules, name_open)
-
-pub returns-then-is_empty : goal.returns-then-is_empty
-returns-then-is_empty c =
-    elim c.then-is_empty.branch [
-      | then-is_empty-via-then-is_empty w ↦ search (rules, name_none)
-      | then-is_empty-via-else-is_empty+then-not-is_name_word w ↦ search (rules, name_other)
-    ]
 
 pub invariant_of-self : goal.invariant_of-self
 invariant_of-self c =

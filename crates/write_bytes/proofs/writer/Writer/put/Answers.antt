@@ -10,7 +10,7 @@ returns-in_default-checked_sub c = writes_miss _ _ c.in-Some.is c.in_default-che
 
 pub returns-then-left-self : goal.returns-then-left-self
 returns-then-left-self c = record {
-  puts = word_written _ c.args.self.now c.in-Some.is c.in-Some-checked_sub.ensures c.if-left-self.true c.copy.ensures;
+  puts = word_written _ c.args.self.now c.in-Some.is c.in-Some-checked_sub.ensures c.if-left-self.true c.copy_from_slice.ensures.after;
   same_slice = refl;
 }
 

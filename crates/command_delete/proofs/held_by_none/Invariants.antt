@@ -1,8 +1,0 @@
-use Rattle.std.proofs.Common.{◌≤◌, ◌≡◌, true}
-use Rattle.sets.specs.Tests.{all}
-use Rattle.book.specs.Plain.{systems_of}
-use Rattle.command_delete.specs.Asked.{not_held_in}
-use Rattle.command_delete.proofs.held_by_none.Given as goal
-
-abbrev pub invariant-loop-s : goal.invariant-loop-s
-invariant-loop-s l = (l.s ≤ 32) × (all l.s (not_held_in (systems_of l.book.sets l.book.numbers) l.c l.v) ≡ true)

@@ -1,0 +1,3 @@
+pub mod ModSteps
+pub mod ModLaws
+pub mod PairLaws

@@ -1,0 +1,59 @@
+// A list of entries, with a mark between them.
+ghost use Rattle.text.specs.Language as language;
+ghost use Rattle.text.specs.Language.{list_of};
+ghost use Rattle.text.specs.Tokens.{mark};
+ghost use Rattle.text_laws.specs.Takes.{Takes};
+ghost use Rattle.read_tokens.specs.Steps.{Each};
+ghost use Rattle.read_tokens.specs.Ahead.{Gives};
+
+use crate::Reader;
+
+// What is gathered of the entries of a list. The names that they mention are entered into one table or two.
+pub trait Entries: Sized {
+    type Table;
+
+    type Other;
+
+    // What an entry says.
+    ghost Said: { Type 0 };
+
+    // How an entry is read.
+    ghost entry: { language.Reader Said };
+
+    // What an entry changes of the tables and of what is gathered.
+    ghost step: { Self.Table × Self.Other × Self → Self.Table × Self.Other × Self → Said → Type 0 };
+
+    // An entry more.
+    fn take(
+        self,
+        table: &mut Self::Table,
+        other: &mut Self::Other,
+        reader: &mut Reader<'_>,
+    ) -> Option<Self>
+        ensures { Gives entry (λ r. step (table.old, other.old, self) (table.new, other.new, r)) reader.old reader.new result };
+
+    // An entry is a byte at least.
+    ghost takes: { Takes 1 entry };
+}
+
+// The entries of a list, with the mark between them.
+#[tactic(auto, using(crate::specs::ReaderLaws::leads_by))]
+pub fn take_list<E: Entries>(
+    start: E,
+    table: &mut E::Table,
+    other: &mut E::Other,
+    between: u8,
+    reader: &mut Reader<'_>,
+) -> Option<E>
+    ensures { Gives (list_of (mark between) E.entry) (λ r. Each E.step (table.old, other.old, start) (table.new, other.new, r))
+        reader.old reader.new result }
+{
+    let mut got = start;
+    // A loop: what an entry changes, of the tables and of what is gathered, is proved of each in turn.
+    loop {
+        got = got.take(table, other, reader)?;
+        if !reader.passes_mark(between) {
+            return Some(got);
+        }
+    }
+}

@@ -16,7 +16,6 @@ ghost use Rattle.command_outcome.specs.Outcome.{Called};
 ghost use Rattle.refusal.specs.Numbers.{code};
 
 use book::Book;
-use book_test::Passing;
 use command_lists::{Composition, Compositions, Numbers, Sets, Usable};
 use refusal::Refusal;
 
@@ -70,13 +69,14 @@ pub fn add_modvar_in(
 }
 
 // ADD-SYS: B5 to B9 are asked of every system afterwards. It takes the Book itself, as its callers keep it.
-pub fn add_sys_in(book: &mut Book, c: usize, u: Usable, g: Compositions) -> Result<(), Refusal>
+pub fn add_sys_in(book: &mut Book, c: usize, u: Usable, g: &Compositions) -> Result<(), Refusal>
     requires { test.passes book.old.sets book.old.numbers ≡ true }
-    ensures { (us : List ℕ) (ks : List (ℕ × Members)) → usable_view u ≡ usable_of us → compositions_view g ≡ compositions_of ks
+    ensures { (us : List ℕ) (ks : List (ℕ × Members)) → usable_view u ≡ usable_of us → compositions_view g.now ≡ compositions_of ks
         → Called book.old.sets book.old.numbers (ADD-SYS c us ks) (code result) book.new.sets book.new.numbers }
 {
     command_questions::sys_asked(book, c, u, g)?;
-    let then = command_candidates::sys_candidate(Passing { book }, c, u, g);
+    let mut then = *book;
+    command_candidates::sys_candidate(&mut then, c, u, g);
     if !book_rules::b3(&then) {
         return Err(Refusal::BreaksB3);
     }
@@ -98,7 +98,8 @@ pub fn add_sysvar_in(book: &mut Book, c: usize, v: usize, g: Composition) -> Res
         → Called book.old.sets book.old.numbers (ADD-SYSVAR c v ms) (code result) book.new.sets book.new.numbers }
 {
     command_version_questions::sysvar_asked(book, c, v, g)?;
-    let after = command_candidates::sysvar_candidate(Passing { book }, c, v, g);
+    let mut after = *book;
+    command_candidates::sysvar_candidate(&mut after, c, v, &g);
     if !book_test::b5_to_b9(&after) {
         return Err(Refusal::BreaksB5ToB9);
     }

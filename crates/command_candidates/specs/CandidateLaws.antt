@@ -1,5 +1,5 @@
 -- What the writers of a system leave is what the accepted command changes.
-use Rattle.std.specs.Prelude.{Bool, Option as Found, true, ◌≡◌, List, ◌<◌, ◌^◌, ℕ, get_or}
+use Rattle.std.specs.Prelude.{Bool, Option as Found, true, ◌≡◌, List, ◌*◌, ◌+◌, ◌<◌, ◌^◌, ℕ, get_or, length}
 use Rattle.std.proofs.Math.Bool.{false}
 use Rattle.std.proofs.Common.{◌∙◌, ap₂, arith}
 use Rattle.std.proofs.Math.Option.{Option, none, some}
@@ -8,18 +8,16 @@ use Rattle.book.specs.Changes.{Holds, TakesDefinition, TakesVersion, composition
 use Rattle.book.specs.Plain.{plain_of, systems_of}
 use Rattle.book_rules.specs.Test.{passes}
 use Rattle.book_rules.specs.TestLaws.{passes_plain, passes-proper}
-use Rattle.command_candidates.specs.Completed.{Filled, members_at, row_number}
-use Rattle.command_candidates.specs.CompletedLaws.{at_composition, members_listed, row_stored}
+use Rattle.command_candidates.specs.Completed.{Filled, members_at, row_number, row_put, stored_in}
+use Rattle.command_candidates.specs.CompletedLaws.{at_composition, members_listed, one_row, row_stored}
 use Rattle.command_lists.specs.Answers.{stores, sys_after, sysvar_after}
-use Rattle.command_lists.specs.Gathered.{Gathered, listed, mapped, nothing}
-use Rattle.command_lists.specs.GatheredLaws.{step_in}
-use Rattle.command_lists.specs.Said.{always, itself, plain_step}
+use Rattle.command_lists.specs.Gathered.{listed, mapped}
 use Rattle.command_lists.specs.ViewLaws.{listed_mapped, listed_seen}
 use Rattle.command_lists.specs.Views.{composition_of, composition_view, compositions_view, maybe, usable_view, view}
 use Rattle.command_lists.specs.declared.gathered.Gathered.{Gathered as Kept}
 use Rattle.command_questions.specs.Asked.{sys_asked, sysvar_asked}
 use Rattle.model.specs.Book.{Book, Specs, has_version, is_system}
-use Rattle.model.specs.Maps.{Map, else_try, is_some, only_if, option_map, or_else}
+use Rattle.model.specs.Maps.{Map, is_some, only_if, option_map, or_else}
 use Rattle.model.specs.Questions.{first_no}
 use Rattle.model.specs.Rules.{B4}
 use Rattle.model_laws.specs.Accepted.{EachYes, all_yes}
@@ -30,8 +28,7 @@ use Rattle.model_laws.specs.MapLaws.{is_some_in, is_some_out, option_map-some}
 use Rattle.sets.specs.Answered.{answered}
 use Rattle.sets.specs.SetLaws.{bit_limit}
 use Rattle.sets.specs.Sets.{Set, bit}
-use Rattle.sets.specs.TestLaws.{<?_in, <?_out, =?-same, all_out, and_in, and_l, and_r, clash, iff_out, iff→≡, not_out}
-use Rattle.sets.specs.Tests.{◌=?◌}
+use Rattle.sets.specs.TestLaws.{<?_out, all_out, and_l, and_r, clash, iff_out, iff→≡, not_out}
 
 -- ---- one composition
 
@@ -50,17 +47,15 @@ only_given none false x g f e h = refl
 only_given (some k) true x g f e h = ap some (h k refl)
 only_given (some k) false x g f e h = clash refl e
 
-module _ (S : Specs) (g : Kept (Kept (Found ℕ) 32) 64) (rows : List ℕ) (stored : Filled (row_number S (compositions_view g).given) 2048 rows 2048)
-    (v : ℕ) (v< : v < 64) (k : Kept (Found ℕ) 32) (here : (view g).given v ≡ some k) where
+module _ (S : Specs) (rows : List ℕ) (v : ℕ) (k : Kept (Found ℕ) 32)
+    (stored : (m : ℕ) → m < 32 → get_or rows (v * 32 + m) 0 ≡ stored_in S (composition_of k) m) where
   member_listed : (m : ℕ) → is_some (stores S (composition_of k) m) ≡ bit k.listed m
   unfolding stores composition_of
   member_listed m = option_map-some _ _ ∙ (unfold composition_view listed in ap (λ (a : Set). a m) (listed_mapped 32 k answered))
 
   row_given : row_of k.listed rows v ≡ stores S (composition_of k)
-  unfolding row_of
-  row_given = fun_ext (λ m. only_there (stores S (composition_of k) m) (bit k.listed m) _ (member_listed m) (λ t.
-      row_stored S (compositions_view g).given rows v m stored v< (bit_limit 32 k.listed m k.low t)
-      ∙ at_composition S g v m k (unfold maybe in sym here)))
+  unfolding row_of stored_in
+  row_given = fun_ext (λ m. only_there (stores S (composition_of k) m) (bit k.listed m) _ (member_listed m) (λ t. stored m (bit_limit 32 k.listed m k.low t)))
 
 -- ---- ADD-SYS
 
@@ -106,7 +101,8 @@ module _ (s n : List ℕ) (c : ℕ) (u : Kept (Unit {0}) 32) (g : Kept (Kept (Fo
       unfolding compositions_of compositions_view mapped
       compositions_are = fun_ext (λ v. only_given ((view g).given v) (has_version (plain_of s n).specs c v) _ composition_of (stores (plain_of s n).specs)
           (versions_are v) (λ k e. let v< = version< v (sym (versions_are v) ∙ is_some_in _ e) in
-          ap (λ (x : ℕ). row_of x rows v) (listed_in.is v v< ∙ members_listed _ v k e) ∙ row_given (plain_of s n).specs g rows stored v v< k e))
+          ap (λ (x : ℕ). row_of x rows v) (listed_in.is v v< ∙ members_listed _ v k e) ∙ row_given (plain_of s n).specs rows v k (λ m m<. row_stored (plain_of s n).specs (compositions_view g).given rows v m stored v< m<
+          ∙ sym (at_composition (plain_of s n).specs g v m k (unfold maybe in sym e)))))
 
       usable_are : bit u.listed ≡ listed (usable_view u)
       unfolding usable_view
@@ -126,11 +122,11 @@ module _ (s n : List ℕ) (c v : ℕ) (g : Kept (Found ℕ) 32) (good : passes s
   unfolding sysvar_asked
   yes_each = all_yes (sysvar_asked (plain_of s n) c v (composition_view g)) (omega arith) asked
 
-  is_system_lem : is_system (plain_of s n).systems c ≡ true
+  pub is_system_lem : is_system (plain_of s n).systems c ≡ true
   unfolding sysvar_asked
   is_system_lem = yes_each.1.1.1.0
 
-  version_small : v < 64
+  pub version_small : v < 64
   unfolding sysvar_asked
   version_small = <?_out _ _ (and_l _ _ (and_r _ _ yes_each.0))
 
@@ -162,18 +158,11 @@ module _ (s n : List ℕ) (c v : ℕ) (g : Kept (Found ℕ) 32) (good : passes s
         (λ x t. sym (sys_is (plain_of s n).systems c v (some m) is_system_lem x) ∙ t)
         good_book.b4)
 
-  module _ (z alone : Kept (Kept (Found ℕ) 32) 64) (none_in : view z ≡ nothing) (one_in : view alone ≡ plain_step 64 (view z) (v, g)) where
-    alone_given : (view alone).given v ≡ some g
-    unfolding plain_step always itself else_try only_if
-    alone_given =
-        ap (λ (h : Gathered (Kept (Found ℕ) 32)). h.given v)
-        (one_in ∙ step_in 64 always always always itself (view z) (v, g) (and_in _ _ (<?_in _ _ version_small) refl))
-        ∙ ap (λ (h : Gathered (Kept (Found ℕ) 32)). else_try (h.given v) (only_if (v =? v) g)) none_in
-        ∙ rw (=?-same v) refl
-
-    pub sysvar_candidate_is : (rows : List ℕ) → Filled (row_number (plain_of s n).specs (compositions_view alone).given) 2048 rows 2048
-        → (s' n' : List ℕ) → Holds s' n' (with_sysvar (plain_of s n) c v (row_of g.listed rows v))
+  module _ (rows row then : List ℕ) (long : length rows ≡ 2048) (filled : Filled (stored_in (plain_of s n).specs (composition_of g)) 32 row 32)
+      (put : then ≡ row_put rows v row) where
+    pub sysvar_candidate_is : (s' n' : List ℕ) → Holds s' n' (with_sysvar (plain_of s n) c v (row_of g.listed then v))
         → Holds s' n' (sysvar_after (plain_of s n) c v (composition_view g).given)
     unfolding sysvar_after composition_of
-    sysvar_candidate_is rows stored s' n' h =
-        subst (Holds s' n') (ap (with_sysvar (plain_of s n) c v) (row_given (plain_of s n).specs alone rows stored v version_small g alone_given)) h
+    sysvar_candidate_is s' n' h =
+        subst (Holds s' n') (ap (with_sysvar (plain_of s n) c v) (row_given (plain_of s n).specs then v g
+        (λ m m<. rw put (one_row (plain_of s n).specs (composition_of g) rows row v m long filled version_small m<)))) h

@@ -19,6 +19,7 @@ use Rattle.model_laws.specs.Accepted.{EachYes, all_yes}
 use Rattle.model_laws.specs.FirstNoLaws.{no_at, none_left, others_asked, yes_at}
 use Rattle.model_laws.specs.Good.{passes→good}
 use Rattle.model_laws.specs.KeepSystems.{less_B4}
+use Rattle.refusal.specs.NumberLaws.{no_number_0}
 use Rattle.sets.specs.TestLaws.{<?_out, and_l}
 use Rattle.sets.specs.Tests.{◌&◌, ◌<?◌, ◌=?◌, ~◌}
 
@@ -41,6 +42,22 @@ unfolding version_asked ◌&◌ ◌<?◌ ◌=?◌ ~◌
 version_asked_lem b c v m t hv hn x e₁₀ x_is e₁₈ q =
     q ∙ next 1 {a = ltb c 32 && ltb v 64} _ _ refl (next m {a = t} _ _ refl (next 10 _ _ e₁₀ (next 15 _ _ (ap (λ (y : ℕ). not (eqb v y)) x_is)
     (next 18 [] [] e₁₈ refl))))
+
+-- the questions before 18, as the code asks them
+module _ (b : Book) (c v m : ℕ) (t hv : Bool) (x : ℕ) (e₁₀ : hv ≡ has_version b.specs c v) (x_is : x ≡ standard b.specs c) where
+  abbrev Before : List Question
+  Before = (1, ltb c 32 && ltb v 64) ∷ (m, t) ∷ (10, hv) ∷ (15, not (eqb v x)) ∷ []
+
+  pub refused_before : {r : ℕ} → r ≡ first_no Before → r ≢ 0 → r ≡ first_no (version_asked b c v m t)
+  refused_before q ne =
+      version_asked_lem b c v m t hv (held_by_none b c v) x e₁₀ x_is refl (sym (asked_before Before ((18, held_by_none b c v) ∷ []) _ q ne))
+
+  pub asked_of_held : {hn : Bool} {r : ℕ} → m ≢ 0 → 0 ≡ first_no Before → hn ≡ held_by_none b c v → r ≡ first_no ((18, hn) ∷ [])
+      → r ≡ first_no (version_asked b c v m t)
+  asked_of_held {hn} ne zero e₁₈ q =
+      version_asked_lem b c v m t hv hn x e₁₀ x_is e₁₈ (q ∙ sym (others_asked Before ((18, hn) ∷ []) (omega (arith, ne)) (sym zero)))
+
+pub ruleset versions_asked = (refused_before, asked_of_held, no_number_0)
 
 -- ---- what an answer of 0 gives
 

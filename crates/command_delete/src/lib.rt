@@ -63,8 +63,9 @@ fn kind_asked(c: usize, own: (bool, Refusal)) -> Result<(), Refusal>
     command_outcome::first_no(&[(c < 32, Refusal::TooLarge), own])
 }
 
-// The questions of DEL-MODVAR and DEL-SYSVAR, with the one that they do not share.
-#[tactic(auto, using(crate::specs::DeleteLaws::version_asked_lem))]
+// The questions of DEL-MODVAR and DEL-SYSVAR, with the one that they do not share. The last one goes through every composition: it is looked
+// at only where the others say yes.
+#[tactic(auto, using(crate::specs::DeleteLaws::versions_asked))]
 fn version_asked(book: &Book, c: usize, v: usize, own: (bool, Refusal)) -> Result<(), Refusal>
     ensures { code result ≡ first_no (version_asked (plain book.now) c v (number own.1) own.0) }
 {
@@ -73,8 +74,8 @@ fn version_asked(book: &Book, c: usize, v: usize, own: (bool, Refusal)) -> Resul
         own,
         (book.has_version(c, v), Refusal::NoVersion),
         (v != book.standard(c), Refusal::Standard),
-        (held_by_none(book, c, v), Refusal::Held),
-    ])
+    ])?;
+    command_outcome::first_no(&[(held_by_none(book, c, v), Refusal::Held)])
 }
 
 // ---- commands on a Book that passes the test for 25, which is changed only where it is accepted. Each takes the Book itself and requires

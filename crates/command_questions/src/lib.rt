@@ -42,8 +42,8 @@ pub fn mod_answer(book: &Book, c: usize, g: Numbers) -> Result<(), Refusal>
 
 // Its questions before those that are put to the book afterwards.
 #[tactic(auto, using(crate::specs::AskedLaws::sys_asked_lem))]
-pub fn sys_asked(book: &Book, c: usize, u: Usable, g: Compositions) -> Result<(), Refusal>
-    ensures { code result ≡ first_no (sys_asked (plain book.now) c (usable_view u) (compositions_view g)) }
+pub fn sys_asked(book: &Book, c: usize, u: Usable, g: &Compositions) -> Result<(), Refusal>
+    ensures { code result ≡ first_no (sys_asked (plain book.now) c (usable_view u) (compositions_view g.now)) }
 {
     command_outcome::first_no(&[
         ((c < 32) & !u.large & !g.large, Refusal::TooLarge),

@@ -75,7 +75,7 @@ pub fn add_sys(
     book_test::tested(book)?;
     let u = command_slices::usable_of(usable);
     let g = command_slices::compositions_of(versions, lengths, members, chosen);
-    command_add::add_sys_in(book, c, u, g)
+    command_add::add_sys_in(book, c, u, &g)
 }
 
 // ADD-SYSVAR, on any Book: members, and for each its version or command_lists::LEFT_OUT. The slices are the calls' interface, "by numbers".

@@ -25,7 +25,7 @@ pub fn add_sys(state: &mut State, reader: &mut Reader<'_>) -> Option<Result<(), 
     let Some(r) = read_sys::read_sys(&mut pairs, reader)? else {
         return Some(Err(Refusal::NoPlace));
     };
-    let answer = add_sys_in(&mut state.book, r.component, r.usable, r.versions);
+    let answer = add_sys_in(&mut state.book, r.component, r.usable, &r.versions);
     if answer.is_ok() {
         state.names.comps = pairs.comps.table;
         state.names.vers = pairs.vers.table;

@@ -78,7 +78,7 @@ module _ (k : Kept (Found ℕ) 32) (ms : Members) (e : composition_view k ≡ me
         ap (λ (g : Gathered (Option ℕ)). g.twice) e ∙ gathered_twice components is_version_or_none always always itself ms all_in
         ∙ ap (λ (z : Bool). ~ (once (firsts ms) & z)) (every-always (seconds ms)) ∙ ap (λ (z : Bool). ~ z) (and_yes _)
 
-    member_is : (m : ℕ) → bit k.listed m ≡ is_some (beside ms m)
+    pub member_is : (m : ℕ) → bit k.listed m ≡ is_some (beside ms m)
     unfolding composition_view listed
     member_is m = sym (ap (λ (s : Set). s m) (listed_mapped 32 k answered)) ∙ ap is_some (given_is m)
 

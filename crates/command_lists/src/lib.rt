@@ -52,31 +52,47 @@ impl<T: Copy, const N: usize> Gathered<T, N> {
 
     // One entry more, which is not below its limit: the flags stay flags, as Gathered says.
     #[tactic(auto, using(crate::specs::ViewLaws::seen_large))]
+    pub fn add_large(&mut self)
+        ensures { view self.new ≡ large_of (view self.old) }
+    {
+        self.large = true;
+    }
+
+    // The same of a list that is handed on.
     pub fn with_large(self) -> Gathered<T, N>
         ensures { view result ≡ large_of (view self) }
     {
         let mut n = self;
-        n.large = true;
+        n.add_large();
         n
     }
 
-    // One entry more: number v with `beside`. What stands at a number's first place is kept. The flags stay flags, as Gathered says.
+    // One entry more: number v with `beside`. What stands at a number's first place is kept. The flags stay flags, as Gathered says. The list is
+    // changed where it stands, since one of compositions has some 5,000 bytes.
     #[tactic(auto, using(crate::specs::ViewLaws::one_more))]
+    pub fn add(&mut self, v: usize, beside: T)
+        requires { N ≤ 64 }
+        ensures { view self.new ≡ plain_step N (view self.old) (v, beside) }
+    {
+        if N <= v {
+            self.large = true;
+            return;
+        }
+        if sets::member(self.listed, v) {
+            self.twice = true;
+            return;
+        }
+        self.listed = sets::with(self.listed, v);
+        self.at[v] = beside;
+    }
+
+    // The same of a list that is handed on.
     pub fn with(self, v: usize, beside: T) -> Gathered<T, N>
         requires { N ≤ 64 }
         ensures { view result ≡ plain_step N (view self) (v, beside) }
     {
         let mut n = self;
-        if N <= v {
-            n.large = true;
-            return n;
-        }
-        if sets::member(n.listed, v) {
-            n.twice = true;
-            return n;
-        }
-        n.listed = sets::with(n.listed, v);
-        n.at[v] = beside;
+        n.add(v, beside);
         n
     }
 
@@ -127,18 +143,28 @@ pub fn with_member(g: Composition, m: usize, version: Option<usize>) -> Composit
     }
 }
 
-// Version v, with its composition.
+// Version v, with its composition. The list is changed where it stands, as by add.
 #[tactic(auto, using(crate::specs::CompositionLaws::composition_steps))]
+pub fn add_composition(g: &mut Compositions, v: usize, k: &Composition)
+    ensures { (ms : Members) → composition_view k.now ≡ members_of ms
+        → compositions_view g.new ≡ compositions_step (compositions_view g.old) (v, ms) }
+{
+    if 64 <= v || k.large {
+        g.add_large();
+        return;
+    }
+    g.add(v, *k);
+    g.empty = g.empty | (k.listed == 0);
+    g.twice = g.twice | k.twice;
+}
+
+// The same of a list that is handed on.
 pub fn with_composition(g: Compositions, v: usize, k: Composition) -> Compositions
     ensures { (ms : Members) → composition_view k ≡ members_of ms
         → compositions_view result ≡ compositions_step (compositions_view g) (v, ms) }
 {
-    if 64 <= v || k.large {
-        return g.with_large();
-    }
-    let mut n = g.with(v, k);
-    n.empty = n.empty | (k.listed == 0);
-    n.twice = n.twice | k.twice;
+    let mut n = g;
+    add_composition(&mut n, v, &k);
     n
 }
 

@@ -101,7 +101,7 @@ pub fn compositions_of(
             return g.with_large();
         }
         let k = composition_at(members, chosen, a, a + l);
-        g = command_lists::with_composition(g, v, k);
+        command_lists::add_composition(&mut g, v, &k);
         a += l;
     }
     if versions.len() != lengths.len() {

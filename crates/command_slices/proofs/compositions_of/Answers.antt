@@ -23,7 +23,7 @@ loop-v-preserved c =
     let t = zip_turn c.args.versions.now c.args.lengths.now c.loop-v.yielded c.into_iter-v-iterator.result c.loop-v.v-iterator c.next.new.self c.next.result (search rules) (search rules) c.loop-v.yielded_by _ c.in-Some.is c.next.ensures.steps in (
       omega (arith, c.loop-v.invariant.0, c.if-members-a.false),
       omega (arith, c.loop-v.invariant.1, c.if-chosen-a.false),
-      compositions_turn c.args.versions.now c.args.lengths.now c.args.members.now c.args.chosen.now (length c.loop-v.yielded) c.loop-v.a _ c.loop-v.invariant.2 _ _ t.0 t.1 (t.2 0) (t.3 0) _ _ _ (length-append _ _) c.if-members-a.false c.if-chosen-a.false refl (c.with_composition-g.ensures _ c.composition_at-k.ensures),
+      compositions_turn c.args.versions.now c.args.lengths.now c.args.members.now c.args.chosen.now (length c.loop-v.yielded) c.loop-v.a _ c.loop-v.invariant.2 _ _ t.0 t.1 (t.2 0) (t.3 0) _ _ _ (length-append _ _) c.if-members-a.false c.if-chosen-a.false refl (c.add_composition.ensures _ c.composition_at-k.ensures),
     )
 
 pub returns-then-versions-lengths : goal.returns-then-versions-lengths

@@ -1,16 +1,14 @@
 // B5 to B9 of every system, and the test for 25 of a Book.
 #![tactic(auto)]
 
-ghost use Rattle.std.specs.Prelude.{◌≡◌, true, ◌<◌, IfOk};
-ghost use Rattle.sets.specs.Tests.{all, if?◌then◌else◌};
-ghost use Rattle.model.specs.Book.{is_system};
-ghost use Rattle.model.specs.Rules.{B4, B5, B5_at, B5_to_B9, each_composition};
+ghost use Rattle.std.specs.Prelude.{◌≡◌, true, ◌<◌, IfOk, Bool, ℕ};
+ghost use Rattle.sets.specs.Tests.{all, if?◌then◌else◌, ◌&◌};
+ghost use Rattle.model.specs.Rules.{B4, B5, B6, B7, B7_at, B8, B9, B9_at, B5_to_B9, each_composition};
 ghost use Rattle.book.specs.Plain.{plain};
 ghost use Rattle.book_rules.specs.RuleLaws.{unspecified};
 ghost use Rattle.book_rules.specs.CompositionLaws.{of_system};
 ghost use Rattle.book_rules.specs.Test as test;
 ghost use Rattle.refusal.specs.Numbers.{code};
-ghost use Rattle.book_test.specs.Rules.{B6_to_B9_at};
 
 mod passing;
 
@@ -21,40 +19,57 @@ use refusal::Refusal;
 
 // ---- the rules of every composition
 
-fn b5_of_system(book: &Book, s: usize) -> bool
-    ensures { result ≡ of_system (plain book.now).systems (B5_at (plain book.now).specs (plain book.now).systems) s }
+// The versions of system s, if it is one, pass.
+// That a closure can be called has to be said: no form is plainer.
+fn of_system<F: Fn(usize) -> bool>(book: &Book, s: usize, passes: F) -> bool
+    requires { F.IsAlwaysCallable passes }
+    ensures { (t : ℕ → ℕ → Bool) → ((v : ℕ) (r : Bool) → F.post passes v r → r ≡ t s v)
+        → result ≡ of_system (plain book.now).systems t s }
 {
     if !book.is_system(s) {
         return true;
     }
     let versions = book.versions(s);
-    (0..64).all(|v| !sets::member(versions, v) || book_compositions::b5_at(book, s, v))
+    sets::all(64, |v| !sets::member(versions, v) || passes(v))
+}
+
+// The versions of every system pass.
+// That a closure can be called has to be said, as above.
+fn each_composition<F: Fn(usize, usize) -> bool>(book: &Book, passes: F) -> bool
+    requires { F.IsAlwaysCallable passes }
+    ensures { (t : ℕ → ℕ → Bool) → ((s v : ℕ) (r : Bool) → F.post passes s v r → r ≡ t s v)
+        → result ≡ each_composition (plain book.now).systems t }
+{
+    sets::all(32, |s| of_system(book, s, |v| passes(s, v)))
 }
 
 // B5
 pub fn b5(book: &Book) -> bool
     ensures { result ≡ B5 (plain book.now).specs (plain book.now).systems }
 {
-    (0..32).all(|s| b5_of_system(book, s))
+    each_composition(book, |s, v| book_compositions::b5_at(book, s, v))
 }
 
-// B6 to B9 of one composition. That the Book of the table of needs stays has to be said of a `&mut`, here and below: no form is plainer.
-#[tactic(auto, using(book_rules::specs::RuleLaws::ands), unfolding(crate::specs::Rules::B6_to_B9_at))]
-fn b6_to_b9_at(needs: &mut Needs<'_>, s: usize, v: usize) -> bool
-    requires { is_system (plain needs.old.book.now).systems s ≡ true }
-    ensures value { result ≡ B6_to_B9_at (plain needs.old.book.now) s v }
-    ensures same_book { needs.new.book.now ≡ needs.old.book.now }
+// B6
+pub fn b6(book: &Book) -> bool
+    ensures { result ≡ B6 (plain book.now).specs (plain book.now).systems }
 {
-    book_compositions::b6_at(needs.book, s, v)
-        && book_compositions::b7_at(needs, s, v)
-        && book_compositions::b8_at(needs.book, s, v)
-        && book_compositions::b9_at(needs, s, v)
+    each_composition(book, |s, v| book_compositions::b6_at(book, s, v))
 }
 
-// Loops, and no call of `all`: what was walked is kept in the table from one version to the next.
-// That the Book of the table stays has to be said of a `&mut`.
-fn b6_to_b9_of_system(needs: &mut Needs<'_>, s: usize) -> bool
-    ensures value { result ≡ of_system (plain needs.old.book.now).systems (B6_to_B9_at (plain needs.old.book.now)) s }
+// B8
+pub fn b8(book: &Book) -> bool
+    ensures { result ≡ B8 (plain book.now).specs (plain book.now).systems }
+{
+    each_composition(book, |s, v| book_compositions::b8_at(book, s, v))
+}
+
+// B7 and B9 ask what a version needs. They are loops, and no calls of `all`: what was walked is kept in the table from one version to
+// the next. That the Book of the table stays has to be said of a `&mut`.
+
+fn b7_of_system(needs: &mut Needs<'_>, s: usize) -> bool
+    ensures value { result ≡ of_system (plain needs.old.book.now).systems
+        (B7_at (plain needs.old.book.now).specs (plain needs.old.book.now).systems) s }
     ensures same_book { needs.new.book.now ≡ needs.old.book.now }
 {
     if !needs.book.is_system(s) {
@@ -62,20 +77,50 @@ fn b6_to_b9_of_system(needs: &mut Needs<'_>, s: usize) -> bool
     }
     let versions = needs.book.versions(s);
     for v in 0..64 {
-        if sets::member(versions, v) && !b6_to_b9_at(needs, s, v) {
+        if sets::member(versions, v) && !book_compositions::b7_at(needs, s, v) {
             return false;
         }
     }
     true
 }
 
-// A loop, and no call of `all`, as above. That the Book of the table stays has to be said of a `&mut`.
-fn b6_to_b9(needs: &mut Needs<'_>) -> bool
-    ensures value { result ≡ each_composition (plain needs.old.book.now).systems (B6_to_B9_at (plain needs.old.book.now)) }
+// B7
+pub fn b7(needs: &mut Needs<'_>) -> bool
+    ensures value { result ≡ B7 (plain needs.old.book.now).specs (plain needs.old.book.now).systems }
     ensures same_book { needs.new.book.now ≡ needs.old.book.now }
 {
     for s in 0..32 {
-        if !b6_to_b9_of_system(needs, s) {
+        if !b7_of_system(needs, s) {
+            return false;
+        }
+    }
+    true
+}
+
+fn b9_of_system(needs: &mut Needs<'_>, s: usize) -> bool
+    ensures value { result ≡ of_system (plain needs.old.book.now).systems
+        (B9_at (plain needs.old.book.now).specs (plain needs.old.book.now).systems) s }
+    ensures same_book { needs.new.book.now ≡ needs.old.book.now }
+{
+    if !needs.book.is_system(s) {
+        return true;
+    }
+    let versions = needs.book.versions(s);
+    for v in 0..64 {
+        if sets::member(versions, v) && !book_compositions::b9_at(needs, s, v) {
+            return false;
+        }
+    }
+    true
+}
+
+// B9
+pub fn b9(needs: &mut Needs<'_>) -> bool
+    ensures value { result ≡ B9 (plain needs.old.book.now).specs (plain needs.old.book.now).systems }
+    ensures same_book { needs.new.book.now ≡ needs.old.book.now }
+{
+    for s in 0..32 {
+        if !b9_of_system(needs, s) {
             return false;
         }
     }
@@ -84,12 +129,25 @@ fn b6_to_b9(needs: &mut Needs<'_>) -> bool
 
 // ---- the test for 25
 
-// B5 to B9, of a Book in which B4 holds. What a version needs is known to end once B4 and B5 hold.
+// B7 to B9, with one table of needs.
+#[tactic(auto, using(book_rules::specs::RuleLaws::ands))]
+fn b7_to_b9(needs: &mut Needs<'_>) -> bool
+    ensures { result ≡ (B7 (plain needs.old.book.now).specs (plain needs.old.book.now).systems
+        & B8 (plain needs.old.book.now).specs (plain needs.old.book.now).systems
+        & B9 (plain needs.old.book.now).specs (plain needs.old.book.now).systems) }
+{
+    b7(needs) && b8(needs.book) && b9(needs)
+}
+
+// B5 to B9, of a Book in which B4 holds. What a version needs is known to end once B4 and B5 hold, and nothing is walked where B6 fails.
 pub fn b5_to_b9(book: &Book) -> bool
     requires { B4 (plain book.now).systems ≡ true }
     ensures { result ≡ B5_to_B9 (plain book.now) }
 {
-    b5(book) && b6_to_b9(&mut Needs::new(book))
+    if !b5(book) {
+        return false;
+    }
+    b6(book) && b7_to_b9(&mut Needs::new(book))
 }
 
 // Nothing is specified.

@@ -159,7 +159,7 @@ module _ (t : Text) (at : ℕ) (s : Found ℕ) (g : Skips t at s) where
   begins_end a e h l = record { is = ap command_of (sym (next_end t at s a g e h).is); from = le_refl _; inside = l }
 
   module _ (a : ℕ) (e : s ≡ Some a) (w : Text) (p : w ≡ word_at (drop a t)) where
-    begins_none : a < length t → length w ≡ 0 → command (drop at t) ≡ wrong
+    pub begins_none : a < length t → length w ≡ 0 → command (drop at t) ≡ wrong
     unfolding command
     begins_none h z = not_of_the_language_lem _ (word_neither t at s g a e w p z h)
 

@@ -153,7 +153,8 @@ pub record Begins (t : Text) (at : ℕ) (f : Form) (e : ℕ) : Type 0 where
   pub from : at ≤ e
   pub inside : e ≤ length t
 
--- the command where the reader r stands: its first word begins a form, and the reader s stands behind the word; or it is not of the language
+-- the command where the reader r stands: its first word begins a form, and the reader s stands behind the word; or it is not of the language,
+-- and the reader is as it was
 abbrev pub BeginsBy : Place → Place → Found Form → Type 0
 BeginsBy r s (Some f) = Begins r.text.now r.at f s.at × (s.text ≡ r.text)
-BeginsBy r s None = command (drop r.at r.text.now) ≡ wrong
+BeginsBy r s None = (command (drop r.at r.text.now) ≡ wrong) × (s ≡ r)

@@ -4,3 +4,4 @@ pub mod Words
 pub mod WordLaws
 pub mod Choices
 pub mod ChoiceLaws
+pub mod StandsLaws

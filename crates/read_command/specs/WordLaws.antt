@@ -14,7 +14,7 @@ use Rattle.read_command.specs.declared.Pair.{Pair}
 
 pub one_said : (r s : Reader) (o : Option Text) → Gives name IsWord r s o → (f : Name → Said) → Gives (of_one f) (OneSaid f) r s o
 unfolding of_one ◌>>=◌ and_then give
-one_said r s None n f = rw n
+one_said r s None n f = (rw n.0, n.1)
 one_said r s (Some w) g f = (
   record {
     value = f g.0.value;

@@ -210,9 +210,11 @@ pub fn read_one<'a>(reader: &mut Reader<'a>) -> Option<&'a [u8]>
 pub fn read_pair<'a>(reader: &mut Reader<'a>) -> Option<Pair<'a>>
     ensures { (f : Name → Name → Said) → Gives (of_pair f) (PairSaid f) reader.old reader.new result }
 {
-    let component = reader.name()?;
-    reader.mark(b'.')?;
-    let version = reader.name()?;
+    let mut ahead = *reader;
+    let component = ahead.name()?;
+    ahead.mark(b'.')?;
+    let version = ahead.name()?;
+    *reader = ahead;
     Some(Pair { component, version })
 }
 
@@ -261,11 +263,14 @@ impl<'a> Entries for Known<'a> {
 pub fn read_choice(facs: &Table<64>, reader: &mut Reader<'_>) -> Option<Option<u64>>
     ensures { Gives choice (ChoiceAsked (table_in facs.now)) reader.old reader.new result }
 {
-    if reader.passes_key(Keyword::End) {
+    let mut ahead = *reader;
+    if ahead.passes_key(Keyword::End) {
+        *reader = ahead;
         return Some(Some(0));
     }
     let none = Known { facs, set: Some(0) };
-    let known = take_list(none, &mut (), &mut (), b',', reader)?;
-    reader.key(Keyword::End)?;
+    let known = take_list(none, &mut (), &mut (), b',', &mut ahead)?;
+    ahead.key(Keyword::End)?;
+    *reader = ahead;
     Some(known.set)
 }

@@ -8,7 +8,7 @@ ghost use Rattle.command_lists.specs.Views.{numbers_view};
 ghost use Rattle.model.specs.Book.{components, versions};
 ghost use Rattle.text.specs.Language.{Name, add_mod, add_modvar, mod_version, pair};
 ghost use Rattle.text_laws.specs.Takes.{mod_version_takes};
-ghost use Rattle.read_tokens.specs.Requested.{ModAsked, ModvarAsked, PairEnters};
+ghost use Rattle.read_tokens.specs.Requested.{BothEnter, ModAsked, ModvarAsked};
 ghost use Rattle.read_tokens.specs.Entering.{four};
 ghost use Rattle.read_tokens.specs.Ahead.{Gives};
 ghost use Rattle.read_mod.specs.ModSteps.{ModStep, add_number, mod_made, mod_state, modvar_made, pair_made};
@@ -50,9 +50,11 @@ impl Entries for ModVersions {
         impls: &mut Filled<256>,
         reader: &mut Reader<'_>,
     ) -> Option<ModVersions> {
-        let v = read_names::take_name(vers, reader)?;
-        reader.key(Keyword::Impl)?;
-        let i = read_names::take_imp(impls, reader)?;
+        let mut ahead = *reader;
+        let v = read_names::take_name(vers, &mut ahead)?;
+        ahead.key(Keyword::Impl)?;
+        let i = read_names::take_imp(impls, &mut ahead)?;
+        *reader = ahead;
         Some(ModVersions(with_mod_version(self.0, v, i)))
     }
 
@@ -81,17 +83,19 @@ pub fn read_mod(
         (ModAsked (four tables.old f impls.old.table.rows) (four tables.new f impls.new.table.rows))
         reader.old reader.new result }
 {
-    let c = read_names::take_name(&mut tables.comps, reader)?;
-    reader.mark(b';')?;
+    let mut ahead = *reader;
+    let c = read_names::take_name(&mut tables.comps, &mut ahead)?;
+    ahead.mark(b';')?;
     let none = ModVersions(Some(Gathered::none(0)));
-    let v = take_list(none, &mut tables.vers, impls, b';', reader)?;
-    reader.key(Keyword::End)?;
+    let v = take_list(none, &mut tables.vers, impls, b';', &mut ahead)?;
+    ahead.key(Keyword::End)?;
+    *reader = ahead;
     Some(mod_request(c, v.0))
 }
 
-// It has mod_request's form, and fills in another struct.
+// A component with a version, if there was a place for each name. It has mod_request's form, and fills in another struct.
 #[tactic(auto, unfolding(crate::specs::ModSteps::pair_made, read_tokens::specs::Entering::both))]
-fn pair_of(c: Option<usize>, v: Option<usize>) -> Option<Pair>
+pub fn pair_of(c: Option<usize>, v: Option<usize>) -> Option<Pair>
     ensures { result ≡ pair_made c v }
 {
     Some(Pair {
@@ -100,18 +104,23 @@ fn pair_of(c: Option<usize>, v: Option<usize>) -> Option<Pair>
     })
 }
 
-// cn "." vn
+// cn "." vn: the place of each name, whether or not the other found one.
 #[tactic(auto, using(read_tokens::specs::SequenceLaws::lacking), unfolding(text::specs::Language::pair))]
-pub fn take_pair(tables: &mut PairTables, reader: &mut Reader<'_>) -> Option<Option<Pair>>
+pub fn take_pair(
+    tables: &mut PairTables,
+    reader: &mut Reader<'_>,
+) -> Option<(Option<usize>, Option<usize>)>
     ensures { Gives pair
-        (PairEnters (table_of components tables.old.comps.table.rows) (table_of components tables.new.comps.table.rows)
+        (BothEnter (table_of components tables.old.comps.table.rows) (table_of components tables.new.comps.table.rows)
         (table_of versions tables.old.vers.table.rows) (table_of versions tables.new.vers.table.rows))
         reader.old reader.new result }
 {
-    let c = read_names::take_name(&mut tables.comps, reader)?;
-    reader.mark(b'.')?;
-    let v = read_names::take_name(&mut tables.vers, reader)?;
-    Some(pair_of(c, v))
+    let mut ahead = *reader;
+    let c = read_names::take_name(&mut tables.comps, &mut ahead)?;
+    ahead.mark(b'.')?;
+    let v = read_names::take_name(&mut tables.vers, &mut ahead)?;
+    *reader = ahead;
+    Some((c, v))
 }
 
 #[tactic(auto, unfolding(crate::specs::ModSteps::modvar_made, read_tokens::specs::Entering::both))]
@@ -139,9 +148,11 @@ pub fn read_modvar(
         (ModvarAsked (four tables.old facs.old.table.rows impls.old.table.rows) (four tables.new facs.new.table.rows impls.new.table.rows))
         reader.old reader.new result }
 {
-    let p = take_pair(tables, reader)?;
-    let q = read_names::take_requirements(facs, reader)?;
-    reader.key(Keyword::Impl)?;
-    let i = read_names::take_imp(impls, reader)?;
-    Some(modvar_request(p, q, i))
+    let mut ahead = *reader;
+    let p = take_pair(tables, &mut ahead)?;
+    let q = read_names::take_requirements(facs, &mut ahead)?;
+    ahead.key(Keyword::Impl)?;
+    let i = read_names::take_imp(impls, &mut ahead)?;
+    *reader = ahead;
+    Some(modvar_request(pair_of(p.0, p.1), q, i))
 }

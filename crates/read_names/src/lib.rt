@@ -94,10 +94,14 @@ pub fn take_requirements(facs: &mut Filled<64>, reader: &mut Reader<'_>) -> Opti
         (λ r. Each FacilityStep (facility_start (table_of facilities facs.old.table.rows)) (facility_state facs.new.table.rows r))
         reader.old reader.new result }
 {
-    if !reader.passes_key(Keyword::Requires) {
+    let mut ahead = *reader;
+    if !ahead.passes_key(Keyword::Requires) {
+        *reader = ahead;
         return Some(Some(0));
     }
-    take_facilities(facs, reader)
+    let required = take_facilities(facs, &mut ahead)?;
+    *reader = ahead;
+    Some(required)
 }
 
 // [facs] ";": the set of their numbers.
@@ -106,10 +110,13 @@ pub fn take_provided(facs: &mut Filled<64>, reader: &mut Reader<'_>) -> Option<O
         (λ r. Each FacilityStep (facility_start (table_of facilities facs.old.table.rows)) (facility_state facs.new.table.rows r))
         reader.old reader.new result }
 {
-    if reader.passes_mark(b';') {
+    let mut ahead = *reader;
+    if ahead.passes_mark(b';') {
+        *reader = ahead;
         return Some(Some(0));
     }
-    let provided = take_facilities(facs, reader)?;
-    reader.mark(b';')?;
+    let provided = take_facilities(facs, &mut ahead)?;
+    ahead.mark(b';')?;
+    *reader = ahead;
     Some(provided)
 }

@@ -74,9 +74,11 @@ impl Entries for SpecVersions {
         facs: &mut Filled<64>,
         reader: &mut Reader<'_>,
     ) -> Option<SpecVersions> {
-        let std = reader.passes_key(Keyword::Std);
-        let v = read_names::take_name(vers, reader)?;
-        let q = read_names::take_requirements(facs, reader)?;
+        let mut ahead = *reader;
+        let std = ahead.passes_key(Keyword::Std);
+        let v = read_names::take_name(vers, &mut ahead)?;
+        let q = read_names::take_requirements(facs, &mut ahead)?;
+        *reader = ahead;
         Some(SpecVersions {
             sets: with_set(self.sets, v, q),
             standard: self.standard.with(std, v),
@@ -108,12 +110,14 @@ fn take_spec_body(
         vers.new.table.rows facs.new.table.rows)
         reader.old reader.new result }
 {
-    let v = take_list(no_spec_versions(), vers, facs, b';', reader)?;
-    reader.key(Keyword::End)?;
+    let mut ahead = *reader;
+    let v = take_list(no_spec_versions(), vers, facs, b';', &mut ahead)?;
+    ahead.key(Keyword::End)?;
     // `?` takes no variant of an enum of three.
     let Standard::Once(standard) = v.standard else {
         return None;
     };
+    *reader = ahead;
     Some(v.sets.zip(standard))
 }
 
@@ -141,9 +145,11 @@ pub fn read_spec(
     ensures { (i : Rows) → Gives add_spec
         (SpecAsked (four tables.old facs.old.table.rows i) (four tables.new facs.new.table.rows i)) reader.old reader.new result }
 {
-    let c = read_names::take_name(&mut tables.comps, reader)?;
-    reader.key(Keyword::Provides)?;
-    let p = read_names::take_provided(facs, reader)?;
-    let b = take_spec_body(&mut tables.vers, facs, reader)?;
+    let mut ahead = *reader;
+    let c = read_names::take_name(&mut tables.comps, &mut ahead)?;
+    ahead.key(Keyword::Provides)?;
+    let p = read_names::take_provided(facs, &mut ahead)?;
+    let b = take_spec_body(&mut tables.vers, facs, &mut ahead)?;
+    *reader = ahead;
     Some(spec_request(c, p, b))
 }

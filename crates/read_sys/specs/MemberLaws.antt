@@ -162,7 +162,7 @@ members_numbered s s' xs g e y = numbered_all MemberStep member_tables (λ s. s.
       };
     })) s s' xs g e y
 
-members_fold : (g : Gathered (Option ℕ)) (xs : Members) → fold_on members_step g xs ≡ gather components is_version_or_none always always itself g xs
+pub members_fold : (g : Gathered (Option ℕ)) (xs : Members) → fold_on members_step g xs ≡ gather components is_version_or_none always always itself g xs
 unfolding fold_on gather members_step
 members_fold g [] = refl
 members_fold g (x ∷ xs) = members_fold (members_step g x) xs

@@ -59,11 +59,14 @@ impl Entries for Members {
         _other: &mut (),
         reader: &mut Reader<'_>,
     ) -> Option<Members> {
-        let c = read_names::take_name(&mut tables.comps, reader)?;
-        if !reader.passes_mark(b'.') {
+        let mut ahead = *reader;
+        let c = read_names::take_name(&mut tables.comps, &mut ahead)?;
+        if !ahead.passes_mark(b'.') {
+            *reader = ahead;
             return Some(Members(with_named_member(self.0, c, Some(None))));
         }
-        let v = read_names::take_name(&mut tables.vers, reader)?;
+        let v = read_names::take_name(&mut tables.vers, &mut ahead)?;
+        *reader = ahead;
         Some(Members(with_named_member(self.0, c, v.map(Some))))
     }
 
@@ -102,11 +105,13 @@ pub fn read_sysvar(
 ) -> Option<Option<SysvarRequest>>
     ensures by_index { (f i : Rows) → Gives add_sysvar (SysvarAsked (four tables.old f i) (four tables.new f i)) reader.old reader.new result }
 {
-    let p = read_mod::take_pair(tables, reader)?;
-    reader.mark(b'=')?;
-    let m = take_members(tables, reader)?;
-    reader.key(Keyword::End)?;
-    Some(sysvar_request(p, m))
+    let mut ahead = *reader;
+    let p = read_mod::take_pair(tables, &mut ahead)?;
+    ahead.mark(b'=')?;
+    let m = take_members(tables, &mut ahead)?;
+    ahead.key(Keyword::End)?;
+    *reader = ahead;
+    Some(sysvar_request(read_mod::pair_of(p.0, p.1), m))
 }
 
 // ---- a system
@@ -183,9 +188,11 @@ impl Entries for SysVersions {
         _other: &mut (),
         reader: &mut Reader<'_>,
     ) -> Option<SysVersions> {
-        let v = read_names::take_name(&mut tables.vers, reader)?;
-        reader.mark(b'=')?;
-        let m = take_members(tables, reader)?;
+        let mut ahead = *reader;
+        let v = read_names::take_name(&mut tables.vers, &mut ahead)?;
+        ahead.mark(b'=')?;
+        let m = take_members(tables, &mut ahead)?;
+        *reader = ahead;
         Some(SysVersions(with_sys_version(self.0, v, m)))
     }
 
@@ -208,13 +215,15 @@ fn sys_request(c: Option<usize>, u: Option<Usable>, v: Option<Compositions>) -> 
 pub fn read_sys(tables: &mut PairTables, reader: &mut Reader<'_>) -> Option<Option<SysRequest>>
     ensures by_index { (f i : Rows) → Gives add_sys (SysAsked (four tables.old f i) (four tables.new f i)) reader.old reader.new result }
 {
-    let c = read_names::take_name(&mut tables.comps, reader)?;
-    reader.key(Keyword::Use)?;
+    let mut ahead = *reader;
+    let c = read_names::take_name(&mut tables.comps, &mut ahead)?;
+    ahead.key(Keyword::Use)?;
     let unusable = UsableNames(Some(Gathered::none(())));
-    let u = take_list(unusable, &mut tables.comps, &mut (), b',', reader)?;
-    reader.mark(b';')?;
+    let u = take_list(unusable, &mut tables.comps, &mut (), b',', &mut ahead)?;
+    ahead.mark(b';')?;
     let none = SysVersions(Some(Gathered::none(Gathered::none(None))));
-    let v = take_list(none, tables, &mut (), b';', reader)?;
-    reader.key(Keyword::End)?;
+    let v = take_list(none, tables, &mut (), b';', &mut ahead)?;
+    ahead.key(Keyword::End)?;
+    *reader = ahead;
     Some(sys_request(c, u.0, v.0))
 }

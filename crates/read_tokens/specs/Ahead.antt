@@ -13,10 +13,10 @@ use Rattle.read_tokens.specs.Readers.{Any, Got, Told}
 use Rattle.read_tokens.specs.Steps.{Leads}
 
 -- the production p read from where the reader r stands: what was read is given and is R of the value, and the reader s stands behind it;
--- or there is none
+-- or there is none, and the reader is as it was
 abbrev pub Gives : {A B : Type 0} → Production A → (B → A → Type 0) → Reader → Reader → Option B → Type 0
 Gives p R r s (Some x) = Got p (R x) r.text.now r.at s.at × (s.text ≡ r.text)
-Gives p R r s None = p (drop r.at r.text.now) ≡ none
+Gives p R r s None = (p (drop r.at r.text.now) ≡ none) × (s ≡ r)
 
 -- the production p read from where the reader r stands: the position behind it, or none
 abbrev pub Ends : {A : Type 0} → Production A → Reader → Option ℕ → Type 0

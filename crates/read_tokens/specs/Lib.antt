@@ -13,3 +13,5 @@ pub mod SequenceLaws
 pub mod GrowthLaws
 pub mod ProductionLaws
 pub mod FacilityLaws
+pub mod Stands
+pub mod StandsLaws

@@ -1,5 +1,5 @@
 -- The productions of the language: a law for each way out of the code.
-use Rattle.std.specs.Prelude.{Bool, None, Option, Some, false, true, List, [], ◌≡◌, refl, ℕ, drop}
+use Rattle.std.specs.Prelude.{Bool, false, true, List, [], ◌≡◌, refl, ℕ, drop}
 use Rattle.std.proofs.Math.Option.{none, some}
 use Rattle.std.proofs.Common.{◌∙◌, ap, sym, arith}
 use Rattle.model.specs.Maps.{and_then}
@@ -9,7 +9,7 @@ use Rattle.text.specs.Language.{Name, ◌>>=◌, ◌>>◌, ahead, comma, give, k
 use Rattle.text.specs.Language.{want, when}
 use Rattle.text.specs.Tables.{name_at}
 use Rattle.text.specs.Tokens.{Token}
-use Rattle.read_tokens.specs.Ahead.{Gives, Passes}
+use Rattle.read_tokens.specs.Ahead.{Passes}
 use Rattle.read_tokens.specs.ReaderLaws.{got_on, none_on}
 use Rattle.read_tokens.specs.Readers.{Any, Got, Told, key_at}
 use Rattle.read_tokens.specs.Steps.{Each}
@@ -44,21 +44,25 @@ module _ (r s : Reader) where
   requirements_none R x m =
       (record { value = []; is = rw (requires_ahead false m); took = refl; from = m.0.from; inside = m.0.inside }, m.1)
 
-  pub requirements_rest : {B : Type 0} (R : B → List Name → Type 0) (u : Reader) (o : Option B) → Passes (key_at 14) r s true
-      → Gives (list_of comma name) R s u o → Gives requirements R r u o
-  unfolding requirements names ◌>>=◌ and_then when
-  requirements_rest R u None m n = rw (requires_ahead true m, none_on (list_of comma name) r s m.1 s.at n)
-  requirements_rest R u (Some x) m g =
-      let b = got_on (list_of comma name) r s m.1 (R x) s.at u.at g.0 in (
-        record {
-          value = b.value;
-          is = rw (requires_ahead true m, b.is);
-          took = b.took;
-          from = (let f = m.0.from in let h = b.from in omega arith);
-          inside = b.inside;
-        },
-        g.1 ∙ m.1,
-      )
+  module _ (m : Passes (key_at 14) r s true) where
+    pub requirements_wrong : list_of comma name (drop s.at s.text.now) ≡ none → requirements (drop r.at r.text.now) ≡ none
+    unfolding requirements names ◌>>=◌ and_then when
+    requirements_wrong n = rw (requires_ahead true m, none_on (list_of comma name) r s m.1 s.at n)
+
+    pub requirements_rest : (Q : List Name → Type 0) (u : Reader) → Got (list_of comma name) Q s.text.now s.at u.at × (u.text ≡ s.text)
+        → Got requirements Q r.text.now r.at u.at × (u.text ≡ r.text)
+    unfolding requirements names ◌>>=◌ and_then when
+    requirements_rest Q u g =
+        let b = got_on (list_of comma name) r s m.1 Q s.at u.at g.0 in (
+          record {
+            value = b.value;
+            is = rw (requires_ahead true m, b.is);
+            took = b.took;
+            from = (let f = m.0.from in let h = b.from in omega arith);
+            inside = b.inside;
+          },
+          g.1 ∙ m.1,
+        )
 
 -- ---- [facs] k
 

@@ -27,9 +27,9 @@ module _ {A : Type 0} (p : Production A) (r s : Reader) (q : s.text ≡ r.text) 
   none_on a n = subst (λ (t : Text). p (drop a t) ≡ none) same_text n
 
 -- nothing is given where nothing is read
-pub gives_none : {A B : Type 0} (p : Production A) (R : B → A → Type 0) (r s : Reader) (o : Option B) → o ≡ None → p (drop r.at r.text.now) ≡ none
-    → Gives p R r s o
-gives_none p R r s o e n = subst (λ (x : Option _). Gives p R r s x) (sym e) n
+pub gives_none : {A B : Type 0} (p : Production A) (R : B → A → Type 0) (r : Reader) (o : Option B) → o ≡ None → p (drop r.at r.text.now) ≡ none
+    → Gives p R r r o
+gives_none p R r o e n = subst (λ (x : Option _). Gives p R r r x) (sym e) (n, refl)
 
 -- ---- what comes next, passed if it is there
 

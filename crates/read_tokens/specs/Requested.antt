@@ -60,6 +60,12 @@ pub record ModAsked (t t' : Tables) (r : Option ModRequest) (x : Said) : Type 0 
 -- ---- "modvar"
 
 -- component and version of a pair, put into their tables
+-- the names of a pair put into their tables: the place of each, whether or not the other found one
+pub record BothEnter (c c' v v' : Table) (o : Option ℕ × Option ℕ) (x : Name × Name) : Type 0 where
+  pub component : Enters components c c' o.0 x.0
+  pub version : Enters versions v v' o.1 x.1
+
+-- and the pair that their places make, if there is one for each
 pub record PairEnters (c c' v v' : Table) (o : Option Pair) (x : Name × Name) : Type 0 where
   pub component : Option ℕ
   pub comps : Enters components c c' component x.0

@@ -113,7 +113,7 @@ impl<'a> Reader<'a> {
             return None;
         };
         self.at = end + 1;
-        Some(&self.text[start..end])
+        Some(words::part(self.text, start, end))
     }
 
     // The position behind the mark c, if this comes next. (`?` takes no variant of a token.)

@@ -49,11 +49,14 @@ pub fn take_list<E: Entries>(
         reader.old reader.new result }
 {
     let mut got = start;
+    let mut ahead = *reader;
     // A loop: what an entry changes, of the tables and of what is gathered, is proved of each in turn.
     loop {
-        got = got.take(table, other, reader)?;
-        if !reader.passes_mark(between) {
-            return Some(got);
+        got = got.take(table, other, &mut ahead)?;
+        if !ahead.passes_mark(between) {
+            break;
         }
     }
+    *reader = ahead;
+    Some(got)
 }

@@ -133,7 +133,7 @@ module _ (s : Held) (fs : List Name) where
       ap (λ (b : Bool). if? b then asked (plain_state s) (model.CHOICE (numbers (table_of facilities s.names.facs.rows) fs)) else rows []) (sym e)
 
   -- "and CHOICE of it finds nothing"
-  choice_nothing : {i : ℕ} {old new : Writer} → false ≡ all_known → Writes (row i (decimal 0)) old new
+  pub choice_nothing : {i : ℕ} {old new : Writer} → false ≡ all_known → Writes (row i (decimal 0)) old new
       → CarriedBy i (plain_state s) (plain_state s) old new (CHOICE fs)
   choice_nothing {i = i} e f = carried (CHOICE fs) (rows []) (choice_carry false e ∙ if-false _ _ _ refl) (unfold afterwards in refl)
       (writes_as {v = row i (decimal 0)} {w = lines i (rows [])} (unfold lines joined in sym (append-nil (row i (decimal 0)))) f)

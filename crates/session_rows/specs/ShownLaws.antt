@@ -90,7 +90,7 @@ shown_keeps s t (the_version v) = refl
 shown_keeps s t (the_pairs ps) = refl
 shown_keeps s t (the_parts ps d) = refl
 
-asked_keeps : (s : State) (q : Query) → afterwards s (asked s q) ≡ s
+pub asked_keeps : (s : State) (q : Query) → afterwards s (asked s q) ≡ s
 unfolding asked
 asked_keeps s q = shown_keeps s s.tables (reply s.book q)
 

@@ -1,3 +1,4 @@
+use Rattle.std.proofs.Common.{refl}
 use Rattle.text.specs.Language.{add_sys, names}
 use Rattle.read_tokens.specs.ListLaws.{each_on}
 use Rattle.read_tokens.specs.SequenceLaws.{before_lacks, behind_lacks, behind_read, end_lacks, end_read, first_lacks}
@@ -12,9 +13,11 @@ returns-in_err-v c = record {
   by_index = λ f i.
       let r = c.args.reader.now in let s = c.take_name.new.reader in let k = c.key.new.self in let u = c.take_list.new.reader in
       let m = c.mark.new.self in
-      rw c.from_residual-in_err-v.ensures
-      (next_lacks r s c.in_ok-c.ensures _ (λ x h. behind_use _ s k c.in_ok-key.ensures (next_lacks k u c.in_ok-u.ensures _ (λ us h.
-      behind_lacks u m c.in_ok-mark.ensures _ (first_lacks _ m c.in_err-v.ensures _)))));
+      rw c.from_residual-in_err-v.ensures (
+        next_lacks r s c.in_ok-c.ensures _ (λ x h. behind_use _ s k c.in_ok-key.ensures (next_lacks k u c.in_ok-u.ensures _ (λ us h.
+            behind_lacks u m c.in_ok-mark.ensures _ (first_lacks _ m c.in_err-v.ensures.0 _)))),
+        refl,
+      );
 }
 
 pub returns-in_err-key-2 : goal.returns-in_err-key-2
@@ -23,10 +26,12 @@ returns-in_err-key-2 c = record {
   by_index = λ f i.
       let r = c.args.reader.now in let s = c.take_name.new.reader in let k = c.key.new.self in let u = c.take_list.new.reader in
       let m = c.mark.new.self in let v = c.take_list-2.new.reader in
-      rw c.from_residual-in_err-key-2.ensures
-      (next_lacks r s c.in_ok-c.ensures _ (λ x h. behind_use _ s k c.in_ok-key.ensures (next_lacks k u c.in_ok-u.ensures _ (λ us h.
-      behind_lacks u m c.in_ok-mark.ensures _
-      (next_lacks m v c.in_ok-v.ensures _ (λ ks h. before_lacks _ v (end_lacks v c.in_err-key-2.ensures) _))))));
+      rw c.from_residual-in_err-key-2.ensures (
+        next_lacks r s c.in_ok-c.ensures _ (λ x h. behind_use _ s k c.in_ok-key.ensures (next_lacks k u c.in_ok-u.ensures _ (λ us h.
+            behind_lacks u m c.in_ok-mark.ensures _
+            (next_lacks m v c.in_ok-v.ensures _ (λ ks h. before_lacks _ v (end_lacks v c.in_err-key-2.ensures.0) _))))),
+        refl,
+      );
 }
 
 pub returns : goal.returns

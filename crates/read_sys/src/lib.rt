@@ -162,7 +162,9 @@ fn with_sys_version(
 ) -> Option<Compositions>
     ensures { SysWith (option_map compositions_view g) v (option_map composition_view m) (option_map compositions_view result) }
 {
-    Some(command_lists::with_composition(g?, v?, m?))
+    let mut g = g?;
+    command_lists::add_composition(&mut g, v?, &m?);
+    Some(g)
 }
 
 // Versions with their compositions, if there was a place for each name.

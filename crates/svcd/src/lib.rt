@@ -31,7 +31,7 @@ fn list(state: &mut State, text: &[u8], out: &mut [u8]) -> Option<usize>
     let n = out.len();
     let Some(left) = session_run::run(text, state, out) else {
         *state = empty();
-        out.fill(0);
+        seqs::clear(out);
         return None;
     };
     Some(n - left)
@@ -65,7 +65,7 @@ pub fn svcd_session(text: &[u8], out: &mut [u8]) -> i32
     ensures out_after { out.new ≡ host_slice out.old text.now }
 {
     if MOST_BYTES < text.len() || MOST_BYTES < out.len() {
-        out.fill(0);
+        seqs::clear(out);
         return MINUS_22;
     }
     let mut state = empty();

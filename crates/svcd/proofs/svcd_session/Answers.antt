@@ -13,7 +13,7 @@ narrow l g = let n = leaves_short l refl in record { sfits = omega (arith, n, g)
 
 pub returns-then-text-gt-MOST_BYTES : goal.returns-then-text-gt-MOST_BYTES
 returns-then-text-gt-MOST_BYTES c =
-    let both = long_call _ _ c.then-text-gt-MOST_BYTES.either (c.fill.ensures.after (λ y e. e)) in record { value = both.0; out_after = both.1 }
+    let both = long_call _ _ c.then-text-gt-MOST_BYTES.either c.clear.ensures in record { value = both.0; out_after = both.1 }
 
 pub overflow_cast-result : goal.overflow_cast-result
 overflow_cast-result c = narrow c.in-Some.ensures c.if-out-gt-MOST_BYTES.false

@@ -99,7 +99,7 @@ fn put_pair(writer: &mut Writer<'_>, i: usize, names: &Names, pair: u16)
     ensures { Writes (row i (pair_in (tables names.now) pair)) writer.old writer.new }
 {
     let k = usize::from(pair);
-    write_rows::put_pair_row(writer, i, names, k / 64, k % 64);
+    write_rows::put_pair_row(writer, i, &names.comps, &names.vers, k / 64, k % 64);
 }
 
 // The rows of pairs.

@@ -1,15 +1,15 @@
 // "Each row goes into the unwritten rest of the lent slice": the rest of the slice is lent on to the row writer, which fills its start.
 #![tactic(auto)]
 
-ghost use Rattle.std.specs.Prelude.{◌≡◌, ◌≤◌, IfSome, length};
-ghost use Rattle.text.specs.Session.{decimal, pair_row, row};
+ghost use Rattle.std.specs.Prelude.{◌++◌, ◌≡◌, ◌≤◌, IfSome, length};
+ghost use Rattle.text.specs.Session.{decimal, row};
 ghost use Rattle.text.specs.Tables.{name_at};
-ghost use Rattle.names.specs.Stored.{table_in, tables};
-ghost use Rattle.text.specs.Bytes.{Text};
+ghost use Rattle.names.specs.Stored.{table_in};
+ghost use Rattle.text.specs.Bytes.{Text, bytes};
 ghost use Rattle.write_bytes.specs.Writes.{PutsText, Writes};
 ghost use Rattle.write_rows.specs.RestLaws.{after, start_of};
 
-use names::{Names, Table};
+use names::Table;
 use write_bytes::Writer;
 
 // Where the bytes that are left start in a slice of n bytes: none where it is shorter, or something did not fit.
@@ -59,10 +59,17 @@ pub fn put_name_row<const P: usize>(writer: &mut Writer<'_>, i: usize, table: &T
 }
 
 // The row of a component and a version.
-pub fn put_pair_row(writer: &mut Writer<'_>, i: usize, names: &Names, c: usize, v: usize)
-    ensures { Writes (row i (pair_row (tables names.now) (c, v))) writer.old writer.new }
+pub fn put_pair_row(
+    writer: &mut Writer<'_>,
+    i: usize,
+    comps: &Table<32>,
+    vers: &Table<64>,
+    c: usize,
+    v: usize,
+)
+    ensures { Writes (row i (name_at (table_in comps.now) c ++ (bytes "," ++ name_at (table_in vers.now) v))) writer.old writer.new }
 {
-    let component = names.comps.name(c);
-    let version = names.vers.name(v);
+    let component = comps.name(c);
+    let version = vers.name(v);
     put_rest(writer, |writer| writer.put_pair(i, component, version));
 }

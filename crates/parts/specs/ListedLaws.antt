@@ -49,7 +49,7 @@ module _ (b : Book) (c v room : ℕ) where
   first_asked m e = none-asked (asked b (PARTS c v)) ((22, length (parts b c v) ≤? room) ∷ []) m (sym e)
 
   module _ (e : 0 ≡ first_no (asked b (PARTS c v))) (k : ℕ) (a : List ℕ) (z : AllRows b c v k a) where
-    no_22 : room < k → first_no (parts_asked b c v room) ≡ 22
+    pub no_22 : room < k → first_no (parts_asked b c v room) ≡ 22
     unfolding parts_asked
     no_22 h =
         others_asked (asked b (PARTS c v)) ((22, length (parts b c v) ≤? room) ∷ []) (numbered b c v) (sym e)

@@ -146,7 +146,7 @@ module _ (i : ℕ) (s : State) (w : Writer) where
 
 module _ (t : Text) (r q : Reader) (b : r.text.now ≡ t) (z : r.at ≡ 0) {i : ℕ} {s : State} {w : Writer} where
   pub steps_nothing : {w' : Writer} {e : Option ℕ} → BeginsBy r q None → IsNone e → Writes (row i (decimal 23)) w w' → StepOf i t s s w w' e
-  steps_nothing c n p = on_text i s w b (stops_wrong i s w r.text.now _ _ (from_start r q z wrong c) n p)
+  steps_nothing c n p = on_text i s w b (stops_wrong i s w r.text.now _ _ (from_start r q z wrong c.0) n p)
 
   module _ {f : Form} (c : BeginsBy r q (Some f)) where
     pub steps_over : f ≡ Over → StepOf i t s s w w None

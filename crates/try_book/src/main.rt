@@ -130,15 +130,20 @@ fn queries_of(rt: &HostRuntime, b: Book) -> io::Result<()> {
     choice(rt, b)
 }
 
-fn main(rt: HostRuntime) -> io::Result<()> {
-    judged(&rt, "empty book", Book::fresh())?;
-    judged(&rt, "teaching book", teaching())?;
-    queries_of(&rt, teaching())?;
+fn print_all(rt: &HostRuntime) -> io::Result<()> {
+    judged(rt, "empty book", Book::fresh())?;
+    judged(rt, "teaching book", teaching())?;
+    queries_of(rt, teaching())?;
     let b = deep();
-    judged(&rt, "deep book", b)?;
+    judged(rt, "deep book", b)?;
     println!(rt;
         "deep book, needs of the last system {}",
         queries::needs(&b, 31, 0).unwrap_or(0)
     )?;
-    damaged(&rt)
+    damaged(rt)
+}
+
+fn main(rt: HostRuntime) {
+    // A write that fails is passed over.
+    let _ = print_all(&rt);
 }

@@ -116,8 +116,9 @@ impl Call {
 // How many numbers a list has at most.
 const MOST: usize = 16;
 
-fn report(rt: &HostRuntime) -> io::Result<()> {
-    println!(rt; "a line that is not of the form")
+// A write that fails is passed over, here and below. Memory that is lacking ends the program.
+fn report(rt: &HostRuntime) {
+    let _ = println!(rt; "a line that is not of the form");
 }
 
 // A number with one more digit: none if the byte is no digit, or the number is too large.
@@ -132,15 +133,15 @@ fn with_digit(number: usize, byte: u8) -> Option<usize> {
 
 // The number that the digits of a word make behind those of `before`: none if it has no digit. A byte that is no digit is reported and left
 // out, and so is a digit that makes the number too large.
-fn number_of(rt: &HostRuntime, before: usize, word: &[u8]) -> io::Result<Option<usize>> {
+fn number_of(rt: &HostRuntime, before: usize, word: &[u8]) -> Option<usize> {
     let mut number = None;
     for &byte in word {
         match with_digit(number.unwrap_or(before), byte) {
             Some(longer) => number = Some(longer),
-            None => report(rt)?,
+            None => report(rt),
         }
     }
-    Ok(number)
+    number
 }
 
 // List k of the arguments, from 0. A number that a full list has no room for is reported, and the digits of the next number follow its digits.
@@ -151,13 +152,13 @@ fn list(rt: &HostRuntime, args: &[u8], k: usize) -> io::Result<Vec<usize>> {
     };
     let mut left = 0;
     for word in text.split(|&c| c == b' ') {
-        let Some(number) = number_of(rt, left, word)? else {
+        let Some(number) = number_of(rt, left, word) else {
             continue;
         };
         if items.len() < MOST {
             items.push(number)?;
         } else {
-            report(rt)?;
+            report(rt);
             left = number;
         }
     }
@@ -175,7 +176,7 @@ fn sets(rt: &HostRuntime, args: &[u8], k: usize) -> io::Result<Vec<u64>> {
 fn number(rt: &HostRuntime, args: &[u8], k: usize) -> io::Result<usize> {
     let items = list(rt, args, k)?;
     if items.len() != 1 {
-        report(rt)?;
+        report(rt);
     }
     Ok(items.first().copied().unwrap_or(0))
 }
@@ -252,9 +253,9 @@ fn make(rt: &HostRuntime, call: Call, book: &mut Book, args: &[u8]) -> io::Resul
     }
 }
 
-fn tell(rt: &HostRuntime, words: &[u8], answer: Answer) -> io::Result<()> {
-    rt.stdout().write_all(words)?;
-    println!(rt; ": {}", refusal::code(answer))
+fn tell(rt: &HostRuntime, words: &[u8], answer: Answer) {
+    let _ = rt.stdout().write_all(words);
+    let _ = println!(rt; ": {}", refusal::code(answer));
 }
 
 // ---- the Book, and what else is done with it
@@ -296,30 +297,33 @@ impl Books {
 fn carry_out(rt: &HostRuntime, books: &mut Books, words: &[u8], args: &[u8]) -> io::Result<()> {
     let end = words.iter().position(|&c| c == b',').unwrap_or(words.len());
     let Some(command) = Command::named(&words[..end]) else {
-        return report(rt);
+        report(rt);
+        return Ok(());
     };
     if args.iter().filter(|&&c| c == b';').count() != command.semicolons() {
-        return report(rt);
+        report(rt);
+        return Ok(());
     }
     let done = match command {
         Command::Call(call) => {
             let answer = make(rt, call, &mut books.book, args)?;
-            return tell(rt, words, answer);
+            tell(rt, words, answer);
+            return Ok(());
         }
         Command::Keep => books.keep(number(rt, args, 0)?),
         Command::Back => books.go_back(number(rt, args, 0)?),
         Command::Set => books.write_set(number(rt, args, 0)?, set(rt, args, 1)?),
         Command::Number => books.write_number(number(rt, args, 0)?, number(rt, args, 1)?),
     };
-    match done {
-        Some(()) => Ok(()),
-        None => report(rt),
+    if done.is_none() {
+        report(rt);
     }
+    Ok(())
 }
 
-fn print_heading(rt: &HostRuntime, line: &[u8]) -> io::Result<()> {
-    rt.stdout().write_all(line)?;
-    println!(rt)
+fn print_heading(rt: &HostRuntime, line: &[u8]) {
+    let _ = rt.stdout().write_all(line);
+    let _ = println!(rt);
 }
 
 fn do_line(rt: &HostRuntime, books: &mut Books, line: &[u8]) -> io::Result<()> {
@@ -327,7 +331,8 @@ fn do_line(rt: &HostRuntime, books: &mut Books, line: &[u8]) -> io::Result<()> {
         return Ok(());
     }
     let Some(colon) = line.iter().position(|&c| c == b':') else {
-        return print_heading(rt, line);
+        print_heading(rt, line);
+        return Ok(());
     };
     carry_out(rt, books, &line[..colon], &line[colon + 1..])
 }

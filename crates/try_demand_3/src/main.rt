@@ -98,8 +98,9 @@ fn say_all(rt: &HostRuntime, answers: &[Result<(), Refusal>]) -> io::Result<()> 
     Ok(())
 }
 
-fn main(rt: HostRuntime) -> io::Result<()> {
+fn main(rt: HostRuntime) {
     let taught = teach();
-    say_all(&rt, &taught.built)?;
-    say_all(&rt, &taught.tried)
+    // A write that fails is passed over.
+    let _ = say_all(&rt, &taught.built);
+    let _ = say_all(&rt, &taught.tried);
 }

@@ -3,6 +3,8 @@
 // their names from command to command. `stdout` was written from document 01.
 #![tactic(auto)]
 
+ghost use Rattle.std.specs.Prelude.{◌≡◌};
+
 use command_lists::{Composition, Gathered};
 use names::Filled;
 use read_command::{
@@ -227,28 +229,37 @@ fn print_pair(rt: &HostRuntime, names: Pair<'_>) -> io::Result<()> {
     rt.stdout().write_all(names.version)
 }
 
-// ---- a command of each form, from behind its first word: whether it is of the language
+// ---- a command of each form, from behind its first word: whether it is of the language; it is read of the text that was handed in
 
 // A command of one component.
-fn one(rt: &HostRuntime, head: Head, reader: &mut Reader<'_>) -> io::Result<bool> {
+#[tactic(auto, using(crate::specs::KeptLaws::kept))]
+fn one(rt: &HostRuntime, head: Head, reader: &mut Reader<'_>) -> io::Result<bool>
+    ensures { reader.new.text ≡ reader.old.text }
+{
     let read = read_command::read_one(reader);
     print_read(rt, head, reader.at, read, |rt, name| print_name(rt, name))
 }
 
 // A command of a pair.
-fn pair(rt: &HostRuntime, head: Head, reader: &mut Reader<'_>) -> io::Result<bool> {
+#[tactic(auto, using(crate::specs::KeptLaws::kept))]
+fn pair(rt: &HostRuntime, head: Head, reader: &mut Reader<'_>) -> io::Result<bool>
+    ensures { reader.new.text ≡ reader.old.text }
+{
     let read = read_command::read_pair(reader);
     print_read(rt, head, reader.at, read, |rt, names| print_pair(rt, names))
 }
 
 // One of the ten commands. Each of the adding commands has tables and a request of its own, so the match names them.
+#[tactic(auto, using(crate::specs::KeptLaws::kept))]
 fn change(
     rt: &HostRuntime,
     head: Head,
     command: Command,
     tables: &mut Tables,
     reader: &mut Reader<'_>,
-) -> io::Result<bool> {
+) -> io::Result<bool>
+    ensures { reader.new.text ≡ reader.old.text }
+{
     match command {
         Command::AddSpec => {
             let read = read_spec::read_spec(&mut tables.pairs, &mut tables.facs, reader);
@@ -277,13 +288,16 @@ fn change(
 }
 
 // A query. A kind is read in a way of its own, so the match names them.
+#[tactic(auto, using(crate::specs::KeptLaws::kept))]
 fn ask(
     rt: &HostRuntime,
     head: Head,
     query: Query,
     tables: &Tables,
     reader: &mut Reader<'_>,
-) -> io::Result<bool> {
+) -> io::Result<bool>
+    ensures { reader.new.text ≡ reader.old.text }
+{
     match query {
         Query::ByName(Named::One(_)) => one(rt, head, reader),
         Query::ByName(Named::Pair(_)) => pair(rt, head, reader),
@@ -306,12 +320,15 @@ fn tell(rt: &HostRuntime, number: usize, at: usize, is_read: bool) -> io::Result
 }
 
 // The next command of a text: whether another can follow. After "quit", the end of the text, or what is not of the language none does.
+#[tactic(auto, using(crate::specs::KeptLaws::kept))]
 fn print_next(
     rt: &HostRuntime,
     number: usize,
     tables: &mut Tables,
     reader: &mut Reader<'_>,
-) -> io::Result<bool> {
+) -> io::Result<bool>
+    ensures { reader.new.text ≡ reader.old.text }
+{
     let at = reader.at;
     let is_read = match read_command::read_command(reader) {
         Some(Form::Changes(command)) => {
@@ -355,5 +372,7 @@ fn main(rt: HostRuntime) -> io::Result<()> {
     // Each program reads its input for itself. An array and no `Vec`, as the program needs no heap. What stands behind its 65536 bytes is not read.
     let mut input = [0u8; 65536];
     let n = input::fill(&mut rt.stdin(), &mut input)?;
-    print_texts(&rt, &input[..n])
+    // A write that fails is passed over.
+    let _ = print_texts(&rt, &input[..n]);
+    Ok(())
 }

@@ -264,12 +264,17 @@ fn last_system(rt: &HostRuntime, b: Book) -> io::Result<()> {
     Ok(())
 }
 
-fn main(rt: HostRuntime) -> io::Result<()> {
-    let k = teaching(&rt)?;
-    table(&rt, k)?;
-    shell(&rt, k)?;
-    room(&rt, k)?;
-    refused(&rt, k)?;
-    order(&rt)?;
-    last_system(&rt, deep(&rt)?)
+fn print_all(rt: &HostRuntime) -> io::Result<()> {
+    let k = teaching(rt)?;
+    table(rt, k)?;
+    shell(rt, k)?;
+    room(rt, k)?;
+    refused(rt, k)?;
+    order(rt)?;
+    last_system(rt, deep(rt)?)
+}
+
+fn main(rt: HostRuntime) {
+    // A write that fails is passed over.
+    let _ = print_all(&rt);
 }

@@ -2,7 +2,7 @@ use Rattle.std.proofs.Common.{rules}
 use Rattle.model.specs.Lists.{non_empty}
 use Rattle.sets.specs.Tests.{◌&◌, ◌≤?◌}
 use Rattle.text.specs.Bytes.{short}
-use Rattle.try_names.proofs.main.Goals as goal
+use Rattle.try_names.proofs.show_all.Goals as goal
 
 pub enter-requires : goal.enter-requires
 unfolding short non_empty ◌&◌ ◌≤?◌

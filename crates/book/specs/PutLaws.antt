@@ -184,10 +184,6 @@ pub kind_of_module : (s n : List ℕ) (c : ℕ) → is_module (modules_of n) c �
 unfolding kind_is
 kind_of_module s n c t = =?-out _ _ (and_r _ _ (sym (is_module_plain s n c) ∙ t))
 
-pub kind_of_system : (s n : List ℕ) (c : ℕ) → is_system (systems_of s n) c ≡ true → kind_at n c ≡ 3
-unfolding kind_is
-kind_of_system s n c t = =?-out _ _ (and_r _ _ (sym (is_system_plain s n c) ∙ t))
-
 module _ (s n : List ℕ) (c v i : ℕ) (ls : length s ≡ 576) (ln : length n ≡ 8768) (t : TakesVersion s n c v) (f : FreePlace n c i) where
   i< : i < 256
   i< = f.place<

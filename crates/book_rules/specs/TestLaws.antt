@@ -54,7 +54,7 @@ module _ (s n : List ℕ) where
   plain_passes t p = and_in _ _ t (and_in _ _ p.counts p.rules)
 
   -- a Book in which nothing is specified is the empty book
-  pub none_passes : all 32 (unspecified (specs_of s n)) ≡ true → passes s n ≡ true
+  none_passes : all 32 (unspecified (specs_of s n)) ≡ true → passes s n ≡ true
   none_passes t = plain_passes proper-none (subst Passes (sym (fresh_plain s n zero_kind)) empty-passes)
     where
       none : (c : ℕ) → c < 32 → specified_at n c ≡ false

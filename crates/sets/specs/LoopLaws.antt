@@ -6,7 +6,7 @@ use Rattle.std.proofs.Math.Path.{ap, fun_ext, sym}
 use Rattle.std.proofs.lemmas.Bool.{not-false, not-true}
 use Rattle.sets.specs.SetLaws.{bit_zero}
 use Rattle.sets.specs.Sets.{Set, below, bit, union, union_below, with}
-use Rattle.sets.specs.TestLaws.{<?_in, <?_out, =?-in, =?-not, all_out, and-false, and_in, and_no, any_in, clash, fails, iff→≡}
+use Rattle.sets.specs.TestLaws.{<?_in, <?_out, =?-in, =?-not, all_out, and-false, and_in, and_no, clash, fails, iff→≡}
 use Rattle.sets.specs.TestLaws.{or-false, or_l, or_swap, same?}
 use Rattle.sets.specs.Tests.{◌&◌, ◌<?◌, ◌or◌, all, any, count, one_if}
 
@@ -38,12 +38,6 @@ any_start f = refl
 pub any_turn : (i : ℕ) (f : ℕ → Bool) {r : Bool} → any i f ≡ false → r ≡ f i → r ≡ false → any (i + 1) f ≡ false
 unfolding any
 any_turn i f {r} a e t = rw add-one (or-false _ _ (sym e ∙ t) ∙ a)
-
-pub any_stop : (n i : ℕ) (f : ℕ → Bool) {r : Bool} → i < n → r ≡ f i → r ≡ true → true ≡ any n f
-any_stop n i f {r} l e t = sym (any_in n f i l (sym e ∙ t))
-
-pub any_end : (n i : ℕ) (f : ℕ → Bool) → i ≤ n → n ≤ i → any i f ≡ false → false ≡ any n f
-any_end n i f h k a = sym a ∙ ap (λ (m : ℕ). any m f) (from_here n i h k)
 
 -- ---- a loop that unites the sets p 0, p 1 and so on into the number s
 

@@ -183,10 +183,6 @@ module _ (k n : ℕ) (a b : Set) (l : k ≤ n) (low : (f : ℕ) → k ≤ f → 
   unfolding subset
   subset_width = all_width k n _ l (λ f h. imp_in _ _ (λ t. clash t (low f h)))
 
-  pub disjoint_width : disjoint n a b ≡ disjoint k a b
-  unfolding disjoint
-  disjoint_width = all_width k n _ l (λ f h. imp_in _ _ (λ t. clash t (low f h)))
-
 -- some number is in both sets where they are not disjoint
 pub meet-disjoint : (k : ℕ) (a b : Set) → meet k a b ≡ (~ disjoint k a b)
 unfolding meet disjoint

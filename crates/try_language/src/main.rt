@@ -3,7 +3,7 @@
 // their names from command to command. `stdout` was written from document 01.
 #![tactic(auto)]
 
-ghost use Rattle.std.specs.Prelude.{◌≡◌};
+ghost use Rattle.std.specs.Prelude.{◌≡◌, IfOk};
 
 use command_lists::{Composition, Gathered};
 use names::Filled;
@@ -312,11 +312,13 @@ fn ask(
 // ---- texts
 
 // "Is the command of the language? no: 23, and the session ends." The position is the one behind the command before it.
-fn tell(rt: &HostRuntime, number: usize, at: usize, is_read: bool) -> io::Result<()> {
+fn tell(rt: &HostRuntime, number: usize, at: usize, is_read: bool) -> io::Result<bool>
+    ensures { IfOk result (λ told. told ≡ is_read) }
+{
     if !is_read {
         println!(rt; "{number} not of the language, 23, from {at}")?;
     }
-    Ok(())
+    Ok(is_read)
 }
 
 // The next command of a text: whether another can follow. After "quit", the end of the text, or what is not of the language none does.
@@ -345,8 +347,7 @@ fn print_next(
         }
         None => false,
     };
-    tell(rt, number, at, is_read)?;
-    Ok(is_read)
+    tell(rt, number, at, is_read)
 }
 
 // The commands of a text. Each takes a byte of it at least.

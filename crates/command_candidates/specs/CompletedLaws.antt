@@ -50,7 +50,7 @@ module _ (S : Specs) (k : Kept (Found ℕ) 32) (m : ℕ) where
   stored_member x given e q = q ∙ ap (λ o. or_else (option_map (λ x. or_else x (standard S m)) (option_map answered o)) 0) e
 
 module _ (S : Specs) (g : Kept (Kept (Found ℕ) 32) 64) (v m : ℕ) where
-  stored_none : maybe None ≡ (view g).given v → 0 ≡ stored_at S (compositions_view g).given v m
+  pub stored_none : maybe None ≡ (view g).given v → 0 ≡ stored_at S (compositions_view g).given v m
   unfolding stored_at compositions_view mapped maybe and_then or_else option_map
   stored_none e = ap (λ o. or_else (and_then (option_map composition_of o) (λ k. stores S k m)) 0) e
 

@@ -28,7 +28,13 @@ fn put_choice(writer: &mut Writer<'_>, i: usize, state: &State, wanted: u64)
 {
     let mut rows: [u16; 2048] = [0; 2048];
     let reply = query_choice::choice_in(state.passing(), wanted, &mut rows);
-    put_listed(writer, i, &state.names, reply.map(|n| &rows[..n]));
+    put_listed(
+        writer,
+        i,
+        &state.names.comps,
+        &state.names.vers,
+        reply.map(|n| &rows[..n]),
+    );
 }
 
 // "choice", from behind its first word. "and CHOICE of it finds nothing", where a facility has no number.

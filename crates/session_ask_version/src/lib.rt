@@ -34,7 +34,8 @@ fn put_parts(writer: &mut Writer<'_>, i: usize, state: &State, c: usize, v: usiz
     put_listed(
         writer,
         i,
-        &state.names,
+        &state.names.comps,
+        &state.names.vers,
         reply.map(|list| &rows[..list.rows]),
     );
 }

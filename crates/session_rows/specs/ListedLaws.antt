@@ -17,7 +17,8 @@ use Rattle.model.specs.PartsList.{listed, next_row, parts, rows_from}
 use Rattle.model.specs.Queries.{CHOICE, PARTS, Reply, asked, choice, found, pairs_from, rising_pairs, the_pairs}
 use Rattle.model.specs.Queries as queries
 use Rattle.model.specs.Questions.{each_below, first_no}
-use Rattle.names.specs.Stored.{tables}
+use Rattle.names.specs.Stored.{tables, tables_of}
+use Rattle.names.specs.declared.Names.{Names}
 use Rattle.parts.specs.Listed.{parts_answer, parts_asked, row_number}
 use Rattle.parts.specs.Listed as parts_call
 use Rattle.query_replies.specs.Found.{flat}
@@ -51,8 +52,16 @@ use Rattle.model_laws.specs.RisingLaws.{rising_below, rising-length, rising-set}
 use Rattle.write_bytes.specs.Writes.{Writes}
 use Rattle.write_bytes.specs.WritesLaws.{writes_as}
 use Rattle.write_bytes.specs.declared.writer.Writer.{Writer}
-use Rattle.session_rows.specs.Rows.{comes_of, listed_in, pair_in, pairs_in}
+use Rattle.session_rows.specs.Rows.{comes_of, listed_in, pair_in, pair_tables, pairs_in}
 use Rattle.session_rows.specs.ShownLaws.{asked_is}
+
+-- ---- the two tables of a row, and all four
+
+pub listed_written : (n : Names) (i : ℕ) (m : Found (Bor (List ℕ)) Refusal) {x y : Writer}
+    → Writes (lines i (comes_of (listed_in (pair_tables n.comps n.vers)) m)) x y → Writes (lines i (comes_of (listed_in (tables n)) m)) x y
+unfolding comes_of listed_in pairs_in pair_in pair_row tables_of
+listed_written n i (Ok k) f = f
+listed_written n i (Err e) f = f
 
 -- ---- a pair and its number
 

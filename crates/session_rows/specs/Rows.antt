@@ -2,6 +2,8 @@
 use Rattle.std.specs.Prelude.{Err, List, Ok, Result as Found, [], ◌∷◌, map, ◌%◌, ◌/◌, ℕ}
 use Rattle.std.specs.Borrow.{Bor}
 use Rattle.model.specs.Book.{versions}
+use Rattle.names.specs.Stored.{table_in}
+use Rattle.names.specs.declared.table.Table.{Table as TheTable}
 use Rattle.query_replies.specs.Replied.{numbers_in}
 use Rattle.refusal.specs.Numbers.{number}
 use Rattle.refusal.specs.declared.Refusal.{Refusal}
@@ -25,6 +27,10 @@ names_in t set = map (name_at t) (numbers_in set)
 -- the name of one number
 unfoldable pub one_of : Table → ℕ → List Text
 one_of t k = name_at t k ∷ []
+
+-- the two tables that rows of pairs are written with
+abbrev pub pair_tables : TheTable 32 → TheTable 64 → Tables
+pair_tables c v = record { comps = table_in c; vers = table_in v; facs = []; impls = [] }
 
 -- the pair that the number k of a lent slice stands for, component × 64 + version
 unfoldable pub pair_in : Tables → ℕ → Text

@@ -9,11 +9,11 @@ ghost use Rattle.sets.specs.Tests.{if?◌then◌else◌};
 ghost use Rattle.text.specs.Session.{decimal, lines, row};
 ghost use Rattle.refusal.specs.Numbers.{code, number};
 ghost use Rattle.text.specs.Tables.{name_at};
-ghost use Rattle.names.specs.Stored.{table_in, tables};
+ghost use Rattle.names.specs.Stored.{table_in};
 ghost use Rattle.write_bytes.specs.Writes.{Writes};
-ghost use Rattle.session_rows.specs.Rows.{comes_of, listed_in, names_in, one_of, pair_in, pairs_in, rows_of};
+ghost use Rattle.session_rows.specs.Rows.{comes_of, listed_in, names_in, one_of, pair_in, pair_tables, pairs_in, rows_of};
 
-use names::{Names, Table};
+use names::Table;
 use refusal::Refusal;
 use write_bytes::Writer;
 
@@ -95,27 +95,33 @@ pub fn put_version(
 // ---- pairs
 
 // The row of a pair, which is component × 64 + version, as the calls for "choice" and "parts" write it into a slice.
-fn put_pair(writer: &mut Writer<'_>, i: usize, names: &Names, pair: u16)
-    ensures { Writes (row i (pair_in (tables names.now) pair)) writer.old writer.new }
+fn put_pair(writer: &mut Writer<'_>, i: usize, comps: &Table<32>, vers: &Table<64>, pair: u16)
+    ensures { Writes (row i (pair_in (pair_tables comps.now vers.now) pair)) writer.old writer.new }
 {
     let k = usize::from(pair);
-    write_rows::put_pair_row(writer, i, &names.comps, &names.vers, k / 64, k % 64);
+    write_rows::put_pair_row(writer, i, comps, vers, k / 64, k % 64);
 }
 
 // The rows of pairs.
-fn put_pairs(writer: &mut Writer<'_>, i: usize, names: &Names, pairs: &[u16])
-    ensures { Writes (rows_of i (pairs_in (tables names.now) pairs.now)) writer.old writer.new }
+fn put_pairs(writer: &mut Writer<'_>, i: usize, comps: &Table<32>, vers: &Table<64>, pairs: &[u16])
+    ensures { Writes (rows_of i (pairs_in (pair_tables comps.now vers.now) pairs.now)) writer.old writer.new }
 {
     for &pair in pairs {
-        put_pair(writer, i, names, pair);
+        put_pair(writer, i, comps, vers, pair);
     }
 }
 
 // The answer of a query for pairs: as put_numbers, with rows of its own.
-pub fn put_listed(writer: &mut Writer<'_>, i: usize, names: &Names, reply: Result<&[u16], Refusal>)
-    ensures { Writes (lines i (comes_of (listed_in (tables names.now)) reply.entry)) writer.old writer.new }
+pub fn put_listed(
+    writer: &mut Writer<'_>,
+    i: usize,
+    comps: &Table<32>,
+    vers: &Table<64>,
+    reply: Result<&[u16], Refusal>,
+)
+    ensures { Writes (lines i (comes_of (listed_in (pair_tables comps.now vers.now)) reply.entry)) writer.old writer.new }
 {
     if let Some(pairs) = put_answer(writer, i, reply) {
-        put_pairs(writer, i, names, pairs);
+        put_pairs(writer, i, comps, vers, pairs);
     }
 }

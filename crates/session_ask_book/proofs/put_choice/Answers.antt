@@ -3,7 +3,7 @@ use lib.ListN.{length-replicate}
 use Rattle.std.specs.Prelude.{IfOk, Result as Found}
 use Rattle.refusal.specs.Numbers.{code, found}
 use Rattle.refusal.specs.declared.Refusal.{Refusal}
-use Rattle.session_rows.specs.ListedLaws.{choice-room, choice_put}
+use Rattle.session_rows.specs.ListedLaws.{choice-room, choice_put, listed_written}
 use Rattle.session_ask_book.proofs.put_choice.Goals as goal
 
 pub map-requires : goal.map-requires
@@ -18,4 +18,4 @@ returns c =
     λ fs e.
     choice_put c.args.state.now c.passing.ensures c.args.wanted c.ranges.wanted.fits fs e (replicate 2048 0) c.choice_in-reply.new.out
     (code c.choice_in-reply.result) (found c.choice_in-reply.result) (length-replicate {A = ℕ} 2048 0) c.choice_in-reply.ensures _
-    c.map.result same rows c.put_listed.ensures
+    c.map.result same rows (listed_written c.args.state.now.names _ c.map.result c.put_listed.ensures)

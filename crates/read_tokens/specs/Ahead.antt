@@ -18,6 +18,11 @@ abbrev pub Gives : {A B : Type 0} → Production A → (B → A → Type 0) → 
 Gives p R r s (Some x) = Got p (R x) r.text.now r.at s.at × (s.text ≡ r.text)
 Gives p R r s None = (p (drop r.at r.text.now) ≡ none) × (s ≡ r)
 
+-- the same, and where there is none, nothing of the reader s
+abbrev pub GivesRead : {A B : Type 0} → Production A → (B → A → Type 0) → Reader → Reader → Option B → Type 0
+GivesRead p R r s (Some x) = Got p (R x) r.text.now r.at s.at × (s.text ≡ r.text)
+GivesRead p R r s None = p (drop r.at r.text.now) ≡ none
+
 -- the production p read from where the reader r stands: the position behind it, or none
 abbrev pub Ends : {A : Type 0} → Production A → Reader → Option ℕ → Type 0
 Ends p r (Some e) = Got p Any r.text.now r.at e

@@ -6,7 +6,7 @@ use Rattle.text.specs.Bytes.{Text}
 use Rattle.text.specs.Language.{Reader as Production, ahead, list_of, want}
 use Rattle.text.specs.Tokens.{Token}
 use Rattle.text_laws.specs.Takes.{Takes}
-use Rattle.read_tokens.specs.Ahead.{Gives, LeadsBy, Passes}
+use Rattle.read_tokens.specs.Ahead.{Gives, GivesRead, LeadsBy, Passes}
 use Rattle.read_tokens.specs.ListLaws.{leads_start, list_broken, list_cons, list_none, list_one}
 use Rattle.read_tokens.specs.Readers.{Any, Got, Told}
 use Rattle.read_tokens.specs.Steps.{Each}
@@ -26,10 +26,14 @@ module _ {A : Type 0} (p : Production A) (r s : Reader) (q : s.text ≡ r.text) 
   pub none_on : (a : ℕ) → p (drop a s.text.now) ≡ none → p (drop a r.text.now) ≡ none
   none_on a n = subst (λ (t : Text). p (drop a t) ≡ none) same_text n
 
--- nothing is given where nothing is read
+-- nothing is given where nothing is read; read_none says nothing of where the reader is then
 pub gives_none : {A B : Type 0} (p : Production A) (R : B → A → Type 0) (r : Reader) (o : Option B) → o ≡ None → p (drop r.at r.text.now) ≡ none
     → Gives p R r r o
 gives_none p R r o e n = subst (λ (x : Option _). Gives p R r r x) (sym e) (n, refl)
+
+pub read_none : {A B : Type 0} (p : Production A) (R : B → A → Type 0) (r s : Reader) (o : Option B) → o ≡ None → p (drop r.at r.text.now) ≡ none
+    → GivesRead p R r s o
+read_none p R r s o e n = subst (λ (x : Option _). GivesRead p R r s x) (sym e) n
 
 -- ---- what comes next, passed if it is there
 

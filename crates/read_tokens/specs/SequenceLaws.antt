@@ -9,7 +9,7 @@ use Rattle.text.specs.Tokens.{Token}
 use Rattle.read_tokens.specs.Ahead.{Passes}
 use Rattle.read_tokens.specs.ListLaws.{each_on}
 use Rattle.read_tokens.specs.ProductionLaws.{end_key}
-use Rattle.read_tokens.specs.ReaderLaws.{gives_none}
+use Rattle.read_tokens.specs.ReaderLaws.{gives_none, read_none}
 use Rattle.read_tokens.specs.Readers.{Any, Got, Told, key_at}
 use Rattle.read_tokens.specs.Steps.{Each}
 use Rattle.read_tokens.specs.declared.reader.Reader.{Reader}
@@ -102,4 +102,4 @@ pub end_lacks : (r : Reader) → Lacks (want (key_at 3)) r → Lacks (want (key 
 end_lacks r n = not_named end_key r n
 
 -- nothing is given where one of the productions lacks
-pub ruleset lacking = (gives_none, first_lacks, before_lacks, next_lacks, behind_lacks, end_read, end_lacks)
+pub ruleset lacking = (gives_none, read_none, first_lacks, before_lacks, next_lacks, behind_lacks, end_read, end_lacks)

@@ -16,7 +16,7 @@ use names::Filled;
 mod list;
 mod reader;
 
-pub use list::{Entries, take_list};
+pub use list::{Entries, take_entry, take_list};
 pub use reader::Reader;
 
 // The keywords, in the order of their table (words/specs/Keywords.antt).

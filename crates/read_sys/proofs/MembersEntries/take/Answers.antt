@@ -13,11 +13,9 @@ returns-then-not-passes_mark c =
 
 pub returns-in_err-v : goal.returns-in_err-v
 returns-in_err-v c =
-    rw c.from_residual-in_err-v.ensures (
-      member_no_version c.args.reader.now c.take_name.new.reader c.passes_mark.new.self _ c.in_ok-c.ensures c.if-not-passes_mark.ensures
-          c.in_err-v.ensures.0,
-      refl,
-    )
+    rw c.from_residual-in_err-v.ensures
+    (member_no_version c.args.reader.now c.take_name.new.reader c.passes_mark.new.self _ c.in_ok-c.ensures c.if-not-passes_mark.ensures
+    c.in_err-v.ensures.0)
 
 pub returns : goal.returns
 unfolding member_state VersionTaken

@@ -5,7 +5,7 @@ use Rattle.read_tokens.proofs.list.take_list.Goals as goal
 pub returns-in_err-got : goal.returns-in_err-got
 returns-in_err-got g c =
     rw c.from_residual.ensures
-    (entry_wrong _ _ _ g.met.E.Entries.takes c.args.reader.now c.loop-got.ahead _ _ c.loop-got.invariant c.in_err-got.ensures.0, refl)
+    (entry_wrong _ _ _ g.met.E.Entries.takes c.args.reader.now c.loop-got.ahead _ _ c.loop-got.invariant c.in_err-got.ensures, refl)
 
 pub returns : goal.returns
 returns g c =
